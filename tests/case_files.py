@@ -16,8 +16,13 @@ r"""Reads the cases of tests/cases, for `tests/run` and `tests/refuse_memory`. A
 `case` names a case; no two have one name. The rest may be left out and stands in any order:
 
     words W1 W2    the words of the command line, none where none are given: so a source is compiled and not run
-    source         the text of source.pas, whose path is the last word; a case without it has a line of words
+    source         the text of source.pas, whose path is the last word
     certificate    the text of source.cert, whose path stands behind the word --cert in front of the others
+    code           the text of source.code, which pint runs: its path is the last word
+    runs pint      the program is pint too, without a code's text; a case of neither has a source or a line of words
+    code with checks, code without checks    the code is written to saved.code, whose path stands behind the source's,
+                   and some of its lines begin with a check, or none does
+    code unwritten, code nowhere    nothing is written to that file, or the code's file takes no byte
     input          what standard input holds
     input folder   standard input is a folder, so that each call that reads it fails
     writes         what is written to standard output
@@ -39,10 +44,22 @@ from dataclasses import dataclass
 FOLDER = os.path.join(os.path.dirname(os.path.abspath(__file__)), "cases")
 SOURCE = "source.pas"
 CERTIFICATE = "source.cert"
+CODE = "source.code"
 SAVED = "saved.cert"
+SAVED_CODE = "saved.code"
 ENDING = ".cases"
-TEXTS = ("source", "certificate", "input", "writes", "tells", "saves")
+TEXTS = ("source", "certificate", "code", "input", "writes", "tells", "saves")
+CHECKS = ("chk", "ckz", "ckd", "cka", "cks", "ckm", "ckq", "ckr", "ckb", "err")
 STREAMS = ("writes", "tells")
+# A device that takes no byte.
+FULL = "/dev/full"
+# The path for the code, and whether what is written there has checks.
+CODES = {
+    "with checks": (SAVED_CODE, True),
+    "without checks": (SAVED_CODE, False),
+    "unwritten": (SAVED_CODE, None),
+    "nowhere": (FULL, None),
+}
 # What a stream holds that takes no byte, and one that gives none.
 NOWHERE = None
 A_FOLDER = None
@@ -69,11 +86,26 @@ class Case:
     words: tuple = ()
     source: bytes = None
     certificate: bytes = None
+    code: bytes = None
+    runs: str = "pcom"
+    # The path for the code, and whether the code that is written there has checks; None where there is none.
+    code_path: str = None
+    checks: bool = None
     input: bytes = b""
     writes: bytes = b""
     tells: bytes = b""
     saves: bytes = None
     status: int = 0
+
+    @property
+    def program(self):
+        """The program that it runs."""
+        return self.runs if self.code is None else "pint"
+
+    @property
+    def goes(self):
+        """Whether it compiles a source and runs its code."""
+        return self.program == "pcom" and b"--go" in self.words
 
 
 def read_cases(folder=FOLDER):
@@ -155,13 +187,17 @@ def name_of(place, head):
 def read_part(place, line, parts):
     """Reads a line that begins a part of a case; gives the part's name if lines of text follow."""
     part, *rest = line.split()
-    if part in parts:
+    if part in parts or (part == "code" and "code_path" in parts):
         raise Fault(place, f"`{part}` stands twice in a case")
     if part in TEXTS and not rest:
         parts[part] = b""
         return part
     if part == "words":
         parts[part] = tuple(encoded(unescaped(place, word)) for word in rest)
+    elif part == "code" and " ".join(rest) in CODES:
+        parts["code_path"], parts["checks"] = CODES[" ".join(rest)]
+    elif part == "runs" and rest == ["pint"]:
+        parts[part] = "pint"
     elif part in STREAMS and rest == ["nowhere"]:
         parts[part] = NOWHERE
     elif part == "input" and rest == ["folder"]:
@@ -216,8 +252,10 @@ def unescaped(place, text):
 
 
 def checked(place, case, parts):
-    if "source" not in parts and "words" not in parts:
+    if not {"source", "words", "code", "runs"} & parts.keys():
         raise Fault(place, f"{case.name} has neither words nor a source")
+    if case.program == "pint" and {"source", "certificate", "code_path", "saves"} & parts.keys():
+        raise Fault(place, f"{case.name} runs pint, which takes a code alone")
     for part in ("input", "writes", "tells", "saves"):
         if parts.get(part) == b"":
             raise Fault(place, f"{case.name} has `{part}` without a text")
@@ -227,10 +265,14 @@ def checked(place, case, parts):
 def placed(case, folder):
     """Puts a case's texts into a folder, where the program is to run, and gives the words of the command line."""
     words = list(case.words)
+    if case.code is not None:
+        words.append(put(case.code, folder, CODE))
     if case.certificate is not None:
         words = ["--cert", put(case.certificate, folder, CERTIFICATE), *words]
     if case.source is not None:
         words.append(put(case.source, folder, SOURCE))
+    if case.code_path is not None:
+        words.append(case.code_path)
     return words
 
 
@@ -241,13 +283,20 @@ def put(text, folder, name):
     return name
 
 
-def saved_in(folder):
-    """What a run in a folder wrote to the file of a certificate; None where it wrote none."""
-    path = os.path.join(folder, SAVED)
+def saved_in(folder, name=SAVED):
+    """What a run in a folder wrote to a file, that of a certificate; None where it wrote none."""
+    path = os.path.join(folder, name)
     if not os.path.exists(path):
         return None
     with open(path, "rb") as it:
         return it.read()
+
+
+def has_checks(code):
+    """Whether a line of a code's text begins with a check; None where there is no text."""
+    if code is None:
+        return None
+    return any(line.startswith(tuple(check.encode() + b" " for check in CHECKS)) for line in code.split(b"\n"))
 
 
 def lines_of(text):

@@ -1,7 +1,8 @@
-"""docs/explanations.ini explains each code and name that the programs can print, and docs/LANGUAGE.md says the same.
+"""docs/explanations.ini explains each code and name that the programs can print, and docs/LANGUAGE.md, or docs/CODE.md
+of the text of code, says the same.
 
 What can be printed is searched in the sources of all crates but those of tests, wherever it stands there: a new
-refusal, kind of error, input fault, machine fault or line fails here until it is explained. The page lists each of
+refusal, kind of error, input fault, machine fault or line fails here until it is explained. The pages list each of
 them once, with exactly the sentence that the file has for it, and shows an example of each refusal of a source."""
 
 import configparser
@@ -13,6 +14,7 @@ import unittest
 TOP = os.path.dirname(os.path.dirname(os.path.dirname(os.path.abspath(__file__))))
 FILE = os.path.join(TOP, "docs", "explanations.ini")
 PAGE = os.path.join(TOP, "docs", "LANGUAGE.md")
+CODE_PAGE = os.path.join(TOP, "docs", "CODE.md")
 COLUMNS = 120
 
 # How the sources spell a code. A fault's comment names it too: `/// K4, at a component ..`.
@@ -25,6 +27,7 @@ CODES = (
 NUMBERS = (
     ("F", re.compile(r"\bReadFault::\w+[^=\n]*=>\s*\(line, (\d+)\)")),
     ("C", re.compile(r"\bRule::\w+ => (\d+),")),
+    ("A", re.compile(r"\bAsmRule::\w+ => (\d+),")),
 )
 # A function that answers one of several names, the names, and those that are kinds of errors.
 NAMING = re.compile(r"^( *)(?:pub )?fn (?:name|\w+_name|\w+_text)\([^)]*\) -> &'static str\n.*?^\1\}", re.M | re.S)
@@ -32,9 +35,9 @@ NAME = re.compile(r'=>\s*"([a-z][a-z ]*)"')
 KIND = re.compile(r'\bSiteKind::\w+ =>\s*"([a-z ]+)"')
 # A whole line, and a line that ends with a path.
 LINE = re.compile(r'\bsentence\([^;"]*"([a-z][a-z ]*[a-z])", ""\)')
-PATH_LINE = re.compile(r'\bfile_line\("([a-z][a-z ]*) ", path, errors\)')
+PATH_LINE = re.compile(r'\.tell\(&\[\s*"([a-z][a-z ]*) "\.as_bytes\(\),\s*path\b')
 # So many are there at the least. Where fewer are found they moved to where this test doesn't look.
-LEAST = {"L": 8, "P": 3, "S": 4, "K": 10, "Y": 2, "G": 1, "F": 5, "C": 7, "M": 4, "names": 19, "lines": 7}
+LEAST = {"L": 8, "P": 3, "S": 4, "K": 10, "Y": 2, "G": 1, "F": 5, "C": 7, "A": 6, "M": 4, "names": 19, "lines": 7}
 
 # The crates of tests.
 OF_TESTS = re.compile(r"/crates/(test_words|\w+_trials)/")
@@ -51,8 +54,9 @@ NEW_SOURCE = """
         }),
         ReadFault::New { line } => (line, 6),
         Rule::New => 8,
+        AsmRule::New => 7,
         Stop::New => (sentence(empty, "time up", ""), 3),
-    file_line("cannot rename ", path, errors);
+    outside.tell(&["cannot rename ".as_bytes(), path.as_bytes(), "\\n".as_bytes()]);
     pub fn name(self) -> &'static str
         ensures short { length result.now ≤ 19 }
     {
@@ -108,8 +112,8 @@ def folded(text):
     return " ".join(text.split())
 
 
-def page_text():
-    with open(PAGE, encoding="utf-8") as file:
+def page_text(path=PAGE):
+    with open(path, encoding="utf-8") as file:
         return file.read()
 
 
@@ -166,13 +170,13 @@ class Explanations(unittest.TestCase):
                 self.assertIsNotNone(SENTENCE.fullmatch(text), f"{name}: {key}: {text}")
 
     def test_lines_keep_their_width(self):
-        for path in (FILE, PAGE):
+        for path in (FILE, PAGE, CODE_PAGE):
             with open(path, encoding="utf-8") as file:
                 wide = [number for number, line in enumerate(file, 1) if len(line.rstrip("\n")) > COLUMNS]
             self.assertEqual(wide, [], path)
 
     def test_the_page_says_the_same(self):
-        said = listed(self.page)
+        said = {**listed(self.page), **listed(page_text(CODE_PAGE))}
         for name, keys in self.explained.items():
             fitting = [text for text in said.get(name, []) if has_sentence(text, keys["means"])]
             self.assertEqual(len(fitting), 1, f"{name}: {keys['means']}: {said.get(name)}")
@@ -189,7 +193,7 @@ class Explanations(unittest.TestCase):
         self.assertEqual(shows, set(KIND.findall(self.text)) - set(WITHOUT_SITE))
 
     def test_what_is_new_would_be_found(self):
-        self.assertEqual(found_codes(NEW_SOURCE), {"L9", "P4", "G2", "F6", "C8", "M5"})
+        self.assertEqual(found_codes(NEW_SOURCE), {"L9", "P4", "G2", "F6", "C8", "A7", "M5"})
         self.assertEqual(found_names(NEW_SOURCE), {"odd number"})
         self.assertEqual(found_lines(NEW_SOURCE), {"time up", "cannot rename"})
 

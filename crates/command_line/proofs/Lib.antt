@@ -1,1 +1,5 @@
+pub mod ArgumentLemmas
+pub mod OptionLemmas
+pub mod PcomLemmas
+pub mod PintLemmas
 pub mod WordsLemmas

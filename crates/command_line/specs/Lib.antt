@@ -1,1 +1,3 @@
+pub mod Pcom
+pub mod Pint
 pub mod Words

@@ -1,4 +1,4 @@
 mod OpenSites
-mod ProgramLemmas
+mod CourseLemmas
 mod RefusalLemmas
 mod StepLemmas

@@ -21,7 +21,7 @@ use Rattle.code_generator.specs.declared.fault.GenFault.{GenFault}
 use Rattle.code_generator.specs.declared.fault.GenFault.TheVariants as generate
 use Rattle.code_scheme.specs.Large.{is_too_large}
 use Rattle.report_text.specs.declared.fault.Fault.{Fault}
-use Rattle.report_text.specs.declared.fault.Fault.TheVariants.{Memory, Lex, Parse, Typing, Certificate, Check, Generate}
+use Rattle.report_text.specs.declared.fault.Fault.TheVariants.{Memory, Lex, Parse, Typing, Certificate, Check, Code, Generate}
 use Rattle.report_text.specs.Faults.{lexer_fault, parser_fault, typing_fault, certificate_fault, checker_fault, generator_fault}
 use Rattle.certificate.specs.declared.Certificate.{Certificate as CertificateRead}
 use Rattle.checker_expressions.specs.declared.fault.CheckFault.{CheckFault}
@@ -116,4 +116,5 @@ not_of_certificate source None (Check check.Foreign) is h =
 not_of_certificate source None (Check (check.Broken rule place)) is h =
     absurd (let never : check.Broken rule place ≡ check.Memory = never_refused h.0 h.1 (check.Broken rule place) h.2.serves.0 h.3 in cc)
 not_of_certificate source None (Generate fault) is h = refl
+not_of_certificate source None (Code fault) is h = absurd h
 not_of_certificate source (Some text) fault is h = absurd cc

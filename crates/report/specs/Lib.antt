@@ -2,8 +2,10 @@ pub mod Headline
 pub mod Whole
 pub mod Refusals
 pub mod Steps
-pub mod Files
-pub mod Program
+pub mod Courses
+pub mod Pcom
+pub mod Pint
+pub mod Prepared
 pub use Rattle.report_text.specs.Faults
 pub use Rattle.report_text.specs.Text
 pub use Rattle.report_text.specs.Messages

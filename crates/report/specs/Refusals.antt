@@ -21,7 +21,8 @@ use Rattle.cert_checker.specs.Walk.{program_walk}
 use Rattle.code_generator.specs.declared.fault.GenFault.TheVariants as generate
 use Rattle.code_scheme.specs.Large.{is_too_large}
 use Rattle.report_text.specs.declared.fault.Fault.{Fault}
-use Rattle.report_text.specs.declared.fault.Fault.TheVariants.{Memory, Lex, Parse, Typing, Certificate, Check, Generate}
+use Rattle.report_text.specs.declared.fault.Fault.TheVariants.{Memory, Lex, Parse, Typing, Certificate, Check, Code}
+use Rattle.report_text.specs.declared.fault.Fault.TheVariants.{Generate}
 use Rattle.report.specs.Headline.{IsWrittenAs, IsTypedTreeOf}
 
 -- the bytes of a text, or of a path, where one is given
@@ -70,3 +71,4 @@ IsRefusal source text (Generate generate.Memory) = ⊥
 IsRefusal source text (Generate generate.TooLarge) =
     (tree : Tree) × (certificate : CertificateRead) × AreOf source text tree certificate
     × ((program_walk tree certificate).broken ≡ []) × (is_too_large tree ≡ true)
+IsRefusal source text (Code fault) = ⊥

@@ -1,13 +1,16 @@
-//! The whole compiler as calls over values, and the lines that its programs print.
+//! The whole compiler as calls over values, and its programs over what lies outside of them.
 #![tactic(auto)]
 
 pub mod compile;
-pub mod files;
-pub mod prepared;
-pub mod program;
+pub mod pcom;
+pub mod pint;
+mod prepared;
 mod running;
+mod telling;
 pub mod text;
 
-pub use command_line::{PcomWords, WordsFault, not_utf8, pcom_words, tell};
-pub use report_text::{fault, messages};
+pub use command_line::{CommandName, WordsFault};
+pub use outside::Outside;
+pub use report_text::fault;
 pub use running::go;
+pub use telling::untaken;

@@ -1,38 +1,15 @@
 ghost use Rattle.std.specs.Prelude.{◌≡◌, ◌≤◌, ◌<◌, ◌-◌, ◌^◌, MatchResult};
-ghost use Rattle.report.specs.Program.{IsRunOf};
+ghost use Rattle.outside.specs.Acts.{streams};
 ghost use Rattle.report.specs.Refusals.{IsRefusal, given};
-ghost use Rattle.report.specs.Whole.{RunsStripped, streams};
-ghost use Rattle.stack_machine.specs.Does.{cell_count};
+ghost use Rattle.report.specs.Whole.{IsRunOf};
 
-use crate::compile::{Compiled, compile};
+use crate::compile::compile;
 use cert_checker::Verdict;
 use report_text::fault::Fault;
 use stack_machine::bytes::{Feed, Sink};
 use stack_machine::machine::Machine;
 use stack_machine::stop::Stop;
 use std::alloc::Global;
-
-impl Compiled {
-    /// Runs the code without the checks of the sites that aren't open, for at most `budget` instructions, and answers
-    /// how it stopped.
-    pub fn run<R: Feed, W: Sink>(
-        &self,
-        machine: &mut Machine,
-        reader: &mut R,
-        writer: &mut W,
-        budget: u64,
-    ) -> Stop
-        requires reader_counts { R.failures reader.old < 2 ^ 64 - 1 }
-        requires writer_counts { W.failures writer.old < 2 ^ 64 - 1 }
-        ensures runs { RunsStripped self.now result (cell_count machine.old) budget
-            (streams (R.remaining reader.old) (R.asked reader.old) (R.failures reader.old) (W.contents writer.old)
-            (W.offered writer.old) (W.failures writer.old))
-            (streams (R.remaining reader.new) (R.asked reader.new) (R.failures reader.new) (W.contents writer.new)
-            (W.offered writer.new) (W.failures writer.new)) }
-    {
-        machine.run(&self.stripped, reader, writer, budget)
-    }
-}
 
 /// Compiles a source, with the text of a certificate or with one that is found, and runs the code without the checks of
 /// the sites that aren't open, on 1 to 16,777,216 cells and for at most `budget` instructions. Answers the checker's
@@ -63,6 +40,6 @@ pub fn go<R: Feed, W: Sink>(
 {
     let compiled = compile(alloc, source, certificate)?;
     let mut machine = Machine::new(alloc, cells)?;
-    let stop = compiled.run(&mut machine, reader, writer, budget);
+    let stop = machine.run(&compiled.stripped, reader, writer, budget);
     Ok((compiled.verdict, stop))
 }

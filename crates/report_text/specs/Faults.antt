@@ -12,8 +12,11 @@ use Rattle.checker_expressions.specs.declared.fault.CheckFault.{CheckFault}
 use Rattle.checker_expressions.specs.declared.fault.CheckFault.TheVariants as check
 use Rattle.code_generator.specs.declared.fault.GenFault.{GenFault}
 use Rattle.code_generator.specs.declared.fault.GenFault.TheVariants as generate
+use Rattle.pcode_assembler.specs.declared.fault.AsmFault.{AsmFault}
+use Rattle.pcode_assembler.specs.declared.fault.AsmFault.TheVariants as assembler
 use Rattle.report_text.specs.declared.fault.Fault.{Fault}
 use Rattle.report_text.specs.declared.fault.Fault.TheVariants.{Memory, Lex, Parse, Typing, Certificate, Check, Generate}
+use Rattle.report_text.specs.declared.fault.Fault.TheVariants.{Code}
 
 abbrev pub lexer_fault : LexFault → Fault
 lexer_fault lex.Memory = Memory
@@ -38,3 +41,7 @@ checker_fault fault = Check fault
 abbrev pub generator_fault : GenFault → Fault
 generator_fault generate.Memory = Memory
 generator_fault generate.TooLarge = Generate generate.TooLarge
+
+abbrev pub assembler_fault : AsmFault → Fault
+assembler_fault assembler.Memory = Memory
+assembler_fault fault = Code fault

@@ -15,6 +15,9 @@ use Rattle.certificate.specs.Faults as read
 use Rattle.checker_expressions.specs.declared.fault.CheckFault.{CheckFault}
 use Rattle.checker_expressions.specs.declared.fault.CheckFault.TheVariants as check
 use Rattle.checker_expressions.specs.Rules as rule
+use Rattle.pcode_assembler.specs.declared.fault.AsmFault.{AsmFault}
+use Rattle.pcode_assembler.specs.declared.fault.AsmFault.TheVariants as assemble
+use Rattle.pcode_assembler.specs.Faults as asm
 use Rattle.code_generator.specs.declared.fault.GenFault.{GenFault}
 use Rattle.code_generator.specs.declared.fault.GenFault.TheVariants as generate
 use Rattle.stack_machine.specs.declared.stop.Stop.{Stop}
@@ -27,7 +30,7 @@ use Rattle.report_text.specs.declared.fault.Fault.{Fault}
 use Rattle.report_text.specs.declared.fault.Fault.TheVariants as fault
 use Rattle.report_text.specs.declared.text.RuleCode.{RuleCode}
 use Rattle.report_text.specs.declared.text.Refusal.{Refusal}
-use Rattle.report_text.specs.declared.text.Refusal.TheVariants.{Memory, At, Certificate, Claim, Claims, Whole}
+use Rattle.report_text.specs.declared.text.Refusal.TheVariants.{Memory, At, Certificate, Claim, Claims, Code, Whole}
 
 -- how many digits a number of 64 bits has at most, and how long the name of an error or a fault is
 abbrev pub number_size : ℕ
@@ -45,8 +48,8 @@ abbrev pub open_line : Site → List ℕ
 open_line site =
     place_text site.place.line site.place.column ++ codes ": possible error: " ++ name_of site.kind ++ 10 ∷ []
 
--- the letters of the rules: L of tokens, P of syntax, F of the text of a certificate, C of its claims, G of the code;
--- those of names and types tell their own
+-- the letters of the rules: L of tokens, P of syntax, F of the text of a certificate, C of its claims, G of the code, A
+-- of its text; those of names and types tell their own
 abbrev pub letter_l : ℕ
 letter_l = 76
 
@@ -61,6 +64,9 @@ letter_c = 67
 
 abbrev pub letter_g : ℕ
 letter_g = 71
+
+abbrev pub letter_a : ℕ
+letter_a = 65
 
 -- a letter and a number
 abbrev pub code_text : RuleCode → List ℕ
@@ -92,6 +98,12 @@ abbrev pub generator_refusal : GenFault → Refusal
 generator_refusal generate.Memory = Memory
 generator_refusal generate.TooLarge = Whole (record { letter = letter_g; number = 1 })
 
+-- a rule at a line of the text of a code
+abbrev pub assembler_refusal : AsmFault → Refusal
+assembler_refusal assemble.Memory = Memory
+assembler_refusal (assemble.Refused rule line) =
+    Code line (record { letter = letter_a; number = asm.number_of rule })
+
 -- what a fault says
 abbrev pub refusal_of : Fault → Refusal
 refusal_of fault.Memory = Memory
@@ -101,17 +113,22 @@ refusal_of (fault.Typing f) = typing_refusal f
 refusal_of (fault.Certificate f) = certificate_refusal f
 refusal_of (fault.Check f) = checker_refusal f
 refusal_of (fault.Generate f) = generator_refusal f
+refusal_of (fault.Code f) = assembler_refusal f
+
+-- of which text, its line and the rule
+abbrev pub line_refusal : List ℕ → ℕ → RuleCode → List ℕ
+line_refusal text line code = text ++ decimal line ++ codes ": refused " ++ code_text code ++ 10 ∷ []
 
 -- the line of a refusal
 abbrev pub refusal_line : Refusal → List ℕ
 refusal_line Memory = codes "no memory\n"
 refusal_line (At place code) = place_text place.line place.column ++ codes ": refused " ++ code_text code ++ 10 ∷ []
-refusal_line (Certificate line code) =
-    codes "certificate:" ++ decimal line ++ codes ": refused " ++ code_text code ++ 10 ∷ []
+refusal_line (Certificate line code) = line_refusal (codes "certificate:") line code
 refusal_line (Claim place code) =
     place_text place.line place.column ++ codes ": certificate refused " ++ code_text code ++ 10 ∷ []
 refusal_line (Claims code) = codes "certificate refused " ++ code_text code ++ 10 ∷ []
 refusal_line (Whole code) = codes "refused " ++ code_text code ++ 10 ∷ []
+refusal_line (Code line code) = line_refusal (codes "code:") line code
 
 -- the status of a refusal: 3 for want of memory, 2 for all else
 abbrev pub refusal_status : Refusal → ℕ
@@ -121,6 +138,7 @@ refusal_status (Certificate line code) = 2
 refusal_status (Claim place code) = 2
 refusal_status (Claims code) = 2
 refusal_status (Whole code) = 2
+refusal_status (Code line code) = 2
 
 -- the name of an error by its number
 abbrev pub kind_name : Option SiteKind → List ℕ

@@ -1,18 +1,19 @@
 ghost use Rattle.std.specs.Prelude.{◌≡◌};
 ghost use Rattle.report_text.specs.Faults.{lexer_fault, parser_fault, typing_fault, certificate_fault, checker_fault};
-ghost use Rattle.report_text.specs.Faults.{generator_fault};
+ghost use Rattle.report_text.specs.Faults.{assembler_fault, generator_fault};
 ghost use Rattle.report_text.specs.declared.fault.Fault.TheVariants.{Memory};
 
 use certificate::fault::ReadFault;
 use checker_expressions::fault::CheckFault;
 use code_generator::fault::GenFault;
 use lexer::fault::LexFault;
+use pcode_assembler::fault::AsmFault;
 use std::alloc::AllocError;
 use thiserror::Error;
 use token_cursor::fault::ParseFault;
 use typed_tree::fault::TypeFault;
 
-/// Why a source was not compiled: want of memory, or the fault of the crate that refused it.
+/// Why a source was not compiled, or a code not assembled: want of memory, or the fault of the crate that refused it.
 #[derive(Clone, Copy, Debug, Error)]
 pub enum Fault {
     #[error("no memory")]
@@ -29,6 +30,8 @@ pub enum Fault {
     Check(CheckFault),
     #[error("{0}")]
     Generate(GenFault),
+    #[error("{0}")]
+    Code(AsmFault),
 }
 
 impl From<AllocError> for Fault {
@@ -101,6 +104,17 @@ impl From<GenFault> for Fault {
         match fault {
             GenFault::Memory => Fault::Memory,
             GenFault::TooLarge => Fault::Generate(fault),
+        }
+    }
+}
+
+impl From<AsmFault> for Fault {
+    ghost from_gives = { λ fault e. e ≡ assembler_fault fault };
+
+    fn from(fault: AsmFault) -> Fault {
+        match fault {
+            AsmFault::Memory => Fault::Memory,
+            AsmFault::Refused { .. } => Fault::Code(fault),
         }
     }
 }

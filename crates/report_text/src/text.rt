@@ -3,15 +3,16 @@ ghost use Rattle.std.specs.List.{flat_map};
 ghost use Rattle.report_text.specs.declared.text.TheConstants.{LINE_SIZE};
 ghost use Rattle.report_text.specs.Text.{name_size, number_size, place_text, open_line, refusal_of, refusal_line};
 ghost use Rattle.report_text.specs.Text.{refusal_status, stop_line, stop_status, error_name, input_name, machine_text};
-ghost use Rattle.report_text.specs.Text.{code_text};
+ghost use Rattle.report_text.specs.Text.{code_text, line_refusal};
 ghost use Rattle.report_text.specs.Text.{at_or_memory, typing_refusal, certificate_refusal};
-ghost use Rattle.report_text.specs.Text.{checker_refusal, generator_refusal};
+ghost use Rattle.report_text.specs.Text.{assembler_refusal, checker_refusal, generator_refusal};
 
 use crate::fault::Fault;
 use certificate::fault::ReadFault;
 use checker_expressions::fault::CheckFault;
 use code_generator::fault::GenFault;
 use itoa::Buffer;
+use pcode_assembler::fault::AsmFault;
 use place::Place;
 use smallvec::SmallVec;
 use stack_machine::stop::{MachineFault, Stop};
@@ -56,13 +57,8 @@ pub fn fault_text(alloc: Global, fault: &Fault) -> (Line, u8)
             let start = placed(alloc, place.line, place.column);
             (refused(sentence_start(start, ": refused "), code), 2)
         }
-        Refusal::Certificate { line, code } => {
-            let start = sentence_start(Line::new(alloc), "certificate:");
-            (
-                refused(sentence_start(numbered(start, line), ": refused "), code),
-                2,
-            )
-        }
+        Refusal::Certificate { line, code } => (line_refused(alloc, "certificate:", line, code), 2),
+        Refusal::Code { line, code } => (line_refused(alloc, "code:", line, code), 2),
         Refusal::Claim { place, code } => {
             let start = placed(alloc, place.line, place.column);
             (
@@ -118,6 +114,8 @@ pub enum Refusal {
     Claims(RuleCode),
     /// Of the program as a whole.
     Whole(RuleCode),
+    /// At a line of the text of a code.
+    Code { line: u64, code: RuleCode },
 }
 
 /// What a fault says.
@@ -132,6 +130,7 @@ pub fn refusal_told(fault: &Fault) -> Refusal
         Fault::Certificate(fault) => certificate_refusal(*fault),
         Fault::Check(fault) => checker_refusal(*fault),
         Fault::Generate(fault) => generator_refusal(*fault),
+        Fault::Code(fault) => assembler_refusal(*fault),
     }
 }
 
@@ -196,6 +195,21 @@ fn generator_refusal(fault: GenFault) -> Refusal
             letter: b'G',
             number: 1,
         }),
+    }
+}
+
+fn assembler_refusal(fault: AsmFault) -> Refusal
+    ensures { result ≡ assembler_refusal fault }
+{
+    match fault {
+        AsmFault::Memory => Refusal::Memory,
+        AsmFault::Refused { rule, line } => Refusal::Code {
+            line,
+            code: RuleCode {
+                letter: b'A',
+                number: rule.number(),
+            },
+        },
     }
 }
 
@@ -270,6 +284,15 @@ fn sentence_start(line: Line, words: &str) -> Line
     ensures short { length result.items ≡ length line.items + length words.now }
 {
     append(line, words)
+}
+
+// Of which text, its line, the code and the line end.
+fn line_refused(alloc: Global, text: &str, number: u64, code: RuleCode) -> Line
+    requires { length text.now ≤ name_size }
+    ensures { result.items ≡ line_refusal text.now number code }
+{
+    let start = sentence_start(Line::new(alloc), text);
+    refused(sentence_start(numbered(start, number), ": refused "), code)
 }
 
 // The words, a name and the line end.

@@ -22,3 +22,5 @@ mod programs;
 mod rows;
 #[cfg(test)]
 mod shown;
+#[cfg(test)]
+mod stage;

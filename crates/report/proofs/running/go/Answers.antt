@@ -1,5 +1,5 @@
-use Rattle.std.proofs.Common.{refl, subst}
-use Rattle.report.specs.Whole.{RunsStripped, streams}
+use Rattle.std.proofs.Common.{ℕ, refl, subst}
+use Rattle.outside.specs.Acts.{IsRun, streams}
 use Rattle.report.proofs.running.go.Goals as goal
 
 pub returns : goal.returns
@@ -20,8 +20,15 @@ returns g c =
           entered = of_layers.visits;
           stripped = of_layers.stripped;
           headline = of_layers.headline;
+          full = record {
+            instructions = of_layers.full;
+            sites = of_layers.sites;
+            points = of_layers.points;
+            follows = of_layers.follows;
+          };
         };
         verdict_is = refl;
-        ran = subst (λ n. RunsStripped compiled c.run-stop.result n c.args.budget before after) c.in_ok-machine.ensures c.run-stop.ensures.runs;
+        ran = subst (λ (n : ℕ). IsRun compiled.stripped n c.args.budget c.run-stop.result before after) c.in_ok-machine.ensures
+            (record { ran = c.run-stop.ensures.ran; failed = c.run-stop.ensures.write_failed });
       };
     }

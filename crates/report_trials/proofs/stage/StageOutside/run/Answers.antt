@@ -1,0 +1,5 @@
+use Rattle.outside.proofs.Runs.{seen}
+use Rattle.report_trials.proofs.stage.StageOutside.run.Goals as goal
+
+pub returns : goal.returns
+returns c = seen _ _ _ _ _ _ _ _ _ _ _ _ c.run-stop.ensures.ran c.run-stop.ensures.write_failed
