@@ -19,7 +19,7 @@ struct Counts {
 fn main(rt: HostRuntime) -> io::Result<()> {
     for path in env::args(&rt)?.skip(1) {
         let source = fs::read(&rt, path.as_str())?;
-        match counts(rt.alloc(), &source) {
+        match counted(rt.alloc(), &source) {
             Ok(counts) => println!(rt;
                 "visits {} entries {} refusals {}",
                 counts.visits, counts.entries, counts.refusals,
@@ -30,7 +30,7 @@ fn main(rt: HostRuntime) -> io::Result<()> {
     Ok(())
 }
 
-fn counts(alloc: Global, source: &[u8]) -> Result<Counts, Fault> {
+fn counted(alloc: Global, source: &[u8]) -> Result<Counts, Fault> {
     let compiled = compile(alloc, source, None)?;
     let found = find(alloc, &compiled.tree)?;
     Ok(Counts {
