@@ -147,7 +147,7 @@ class OverTheProgram(ExplainCase):
         self.assertEqual(self.explain("--cert", "nothing.cert", "nothing.pas"), 3)
 
     def test_wrong_words(self):
-        for words in (["--stop", "x.pas"], ["x.pas", "y.pas"], ["--cert"], ["--go"]):
+        for words in (["--stop", "x.pas"], ["x.pas", "x.code", "y.code"], ["--cert"], ["--go"]):
             self.assertEqual(self.explain(*words), 3)
             self.assertIn("error: ", self.errors)
 
