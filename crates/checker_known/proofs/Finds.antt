@@ -1,22 +1,25 @@
 -- Where what is held stands that is listed by a variable: found by halves, and put into the list anew.
-use Rattle.std.proofs.Common.{arith, ◌≡◌, ◌≢◌, ◌⊎◌, inl, inr, ⊎_elim, ◌∙◌, sym, ap, subst, ℕ, suc, ◌+◌, ◌<◌, ◌≤◌, true, false, true≢false, nat_eq, set}
+use Rattle.std.proofs.Common.{arith, ◌≡◌, ◌≢◌, ◌⊎◌, inl, inr, ⊎_elim, ◌∙◌, sym, ap, refl, subst, ℕ, suc, ◌+◌, ◌<◌, ◌≤◌, true, false, true≢false, nat_eq, set}
 use Rattle.std.proofs.Common.{List, [], ◌∷◌, ◌++◌, get_or, length, take, Some}
-use Rattle.std.specs.List.{Contains}
+use Rattle.std.specs.List.{Contains, dedup}
+use Rattle.std.specs.List.Sorted.{IsPermutation, IsSorted}
 use Rattle.std.specs.Global.{Vec}
-use Rattle.std.specs.Ordering.{is_gt, ordering_reverse}
+use Rattle.std.specs.Ordering.{is_gt, nat_cmp, ordering_reverse}
 use Rattle.std.specs.declared.cmp.Ordering.{Ordering}
 use Rattle.std.specs.declared.cmp.Ordering.TheVariants.{Less, Equal, Greater}
 use Rattle.std.proofs.lemmas.Bool.{cases_Bool, cases_lt, eq-eqb, eqb-true}
 use Rattle.std.proofs.lemmas.List.{get_or_default, map-append, take_all, take_more}
+use Rattle.std.proofs.lemmas.List.Kept.{Contains-dedup_nat, Contains-from_dedup}
+use Rattle.std.proofs.lemmas.List.Sorted.{Contains-permutation, IsPermutation-sym}
 use Rattle.std.proofs.lemmas.List.Elements.{Contains-append_cases, Contains-append_left, Contains-append_right}
-use Rattle.std.proofs.lemmas.Map.Keys.{Less-from_sorted}
+use Rattle.std.proofs.lemmas.Map.Keys.{IsStrictlyIncreasing-dedup, Less-from_sorted, below_from_sorted, sorted_from_strictly_increasing}
 use Rattle.checker_state.specs.declared.bound.Rebinding.{Rebinding}
 use Rattle.checker_state.specs.declared.held.Held.{Held as KeptHeld}
 use Rattle.checker_state.specs.State.{Held, held_order}
 use Rattle.checker_state.specs.View.{held_by, said_held}
 use Rattle.checker_known.specs.Halves.{IsEdge}
 use Rattle.checker_known.specs.Order.{disorder_of}
-use Rattle.checker_known.specs.Resting.{AreChanging, AreListed, AreRising, HasAllAt, HaveAll, IsAt, listed, root_of}
+use Rattle.checker_known.specs.Resting.{AreChanging, AreFound, AreListed, AreRising, HasAllAt, HaveAll, IsAt, listed, root_of}
 use Rattle.checker_known.proofs.HeldLists.{said-there, said_all}
 use Rattle.checker_known.proofs.InOrder.{held-turned, in-order}
 use Rattle.checker_known.proofs.Listed.{first-or-rest, is-listed, listed-other, listed-set, same-order, settled}
@@ -59,32 +62,46 @@ module _ (one : Held) (held : List Held) (count place : ℕ) (ordered : disorder
 
 -- ---- places that rise
 
-pub rising-within : (first : ℕ) (places : List ℕ) (end more : ℕ) → AreRising first places end → end ≤ more → AreRising first places more
-rising-within first [] end more rising within = omega (arith, rising, within)
-rising-within first (place ∷ places) end more rising within = (rising.0, rising-within (suc place) places end more rising.1 within)
+rising-by : (places : List ℕ) (first end : ℕ) → first ≤ end → ((place : ℕ) → Contains places place → (first ≤ place) × (place < end))
+    → ((i j : ℕ) → i < j → j < length places → get_or places i 0 < get_or places j 0) → AreRising first places end
+rising-by [] first end within inside rises = within
+rising-by (place ∷ places) first end within inside rises =
+    let here = inside place (0, omega arith, refl) in (
+      here.0,
+      rising-by places (suc place) end (omega (arith, here.1))
+          (λ other has. (
+            omega (
+              arith,
+              subst (λ (n : ℕ). place < n) (get_or_default places has.0 0 other has.1 ∙ has.2)
+                  (rises 0 (suc has.0) (omega arith) (omega (arith, has.1))),
+            ),
+            (inside other (suc has.0, omega (arith, has.1), has.2)).1,
+          ))
+          (λ i j below within. rises (suc i) (suc j) (omega (arith, below)) (omega (arith, within))),
+    )
 
-pub rising-more : (first : ℕ) (places : List ℕ) (end place : ℕ) → AreRising first places end → end ≤ place
-    → AreRising first (places ++ place ∷ []) (place + 1)
-rising-more first [] end place rising past = (omega (arith, rising, past), omega arith)
-rising-more first (other ∷ places) end place rising past = (rising.0, rising-more (suc other) places end place rising.1 past)
+-- places that were found, sorted and each once
+pub rising-found : (list held : List Held) (found sorted places : List ℕ) → AreFound list held found → IsPermutation found sorted
+    → IsSorted nat_cmp sorted → places ≡ dedup nat_eq sorted → HaveAll list held places
+rising-found list held found sorted places all moved in_order is =
+    let rises = sorted_from_strictly_increasing (dedup nat_eq sorted) (IsStrictlyIncreasing-dedup sorted in_order) in
+    record {
+      rising = rw is (rising-by (dedup nat_eq sorted) 0 (length held) (omega arith)
+          (λ place has. (
+            omega arith,
+            all.inside place (Contains-permutation sorted found place (IsPermutation-sym found sorted moved) (Contains-from_dedup nat_eq sorted place has)),
+          ))
+          (λ i j below within. below_from_sorted (dedup nat_eq sorted) i j 0 rises below within));
+      there = λ one place has at.
+          rw is (Contains-dedup_nat sorted place (Contains-permutation found sorted place moved (all.there one place has at)));
+    }
 
--- the places of those of a list that are held, so far
-pub record Found (list held : List Held) (places : List ℕ) (end : ℕ) : Type 0 where
-  pub rising : AreRising 0 places end
-  pub within : end ≤ length held
-  pub there : (one : Held) (place : ℕ) → Contains list one → IsAt one held place → Contains places place
+-- ---- the places of those of a list that are held
 
-pub found-begin : (held : List Held) → Found [] held [] 0
+pub found-begin : (held : List Held) → AreFound [] held []
 found-begin held = record {
-  rising = omega arith;
-  within = omega arith;
+  inside = λ place has. absurd (omega (arith, has.1));
   there = λ one place has at. absurd (omega (arith, has.1));
-}
-
-found-end : (list held : List Held) (places : List ℕ) (end : ℕ) → Found list held places end → HaveAll list held places
-found-end list held places end found = record {
-  rising = rising-within 0 places end (length held) found.rising found.within;
-  there = found.there;
 }
 
 last-or-before : (list : List Held) (next one : Held) → Contains (list ++ next ∷ []) one → Contains list one ⊎ (next ≡ one)
@@ -95,24 +112,26 @@ last-or-before list next one has =
     (Contains-append_cases list (next ∷ []) one has)
 
 -- one more, which isn't held
-found-absent : (list held : List Held) (places : List ℕ) (end : ℕ) (next : Held) → Found list held places end
-    → ((place : ℕ) → IsAt next held place → ⊥) → Found (list ++ next ∷ []) held places end
-found-absent list held places end next found absent = record {
-  rising = found.rising;
-  within = found.within;
+found-absent : (list held : List Held) (places : List ℕ) (next : Held) → AreFound list held places
+    → ((place : ℕ) → IsAt next held place → ⊥) → AreFound (list ++ next ∷ []) held places
+found-absent list held places next found absent = record {
+  inside = found.inside;
   there = λ one place has at.
       ⊎_elim (λ (before : Contains list one). found.there one place before at)
       (λ (same : next ≡ one). absurd (absent place (subst (λ (h : Held). IsAt h held place) (sym same) at)))
       (last-or-before list next one has);
 }
 
--- one more, which is held at a place behind the others
-found-present : (list held : List Held) (places : List ℕ) (end : ℕ) (next : Held) (place : ℕ) → Found list held places end → end ≤ place
-    → place < length held → ((other : ℕ) → IsAt next held other → other ≡ place)
-    → Found (list ++ next ∷ []) held (places ++ place ∷ []) (place + 1)
-found-present list held places end next place found past inside there = record {
-  rising = rising-more 0 places end place found.rising past;
-  within = omega (arith, inside);
+-- one more, which is held at a place
+found-present : (list held : List Held) (places : List ℕ) (next : Held) (place : ℕ) → AreFound list held places → place < length held
+    → ((other : ℕ) → IsAt next held other → other ≡ place) → AreFound (list ++ next ∷ []) held (places ++ place ∷ [])
+found-present list held places next place found inside there = record {
+  inside = λ other has.
+      ⊎_elim (λ (before : Contains places other). found.inside other before)
+      (λ (last : Contains (place ∷ []) other).
+      ⊎_elim (λ (same : place ≡ other). omega (arith, same, inside)) (λ (none : Contains [] other). absurd (omega (arith, none.1)))
+      (first-or-rest place [] other last))
+      (Contains-append_cases places (place ∷ []) other has);
   there = λ one other has at.
       ⊎_elim (λ (before : Contains list one). Contains-append_left places (place ∷ []) other (found.there one other before at))
       (λ (same : next ≡ one).
@@ -127,27 +146,26 @@ said-more list i d inside =
     sym (map-append said_held (take i list) (get_or list i d ∷ [])) ∙ ap said_all (sym (take_more list i d inside))
 
 -- the same of the next one of a list
-pub next-absent : (list : List KeptHeld) (i : ℕ) (d : KeptHeld) (held : List Held) (places : List ℕ) (end : ℕ) → i < length list
-    → Found (said_all (take i list)) held places end → ((place : ℕ) → IsAt (said_held (get_or list i d)) held place → ⊥)
-    → Found (said_all (take (i + 1) list)) held places end
-next-absent list i d held places end inside found absent =
-    subst (λ (some : List Held). Found some held places end) (said-more list i d inside)
-    (found-absent (said_all (take i list)) held places end (said_held (get_or list i d)) found absent)
+pub next-absent : (list : List KeptHeld) (i : ℕ) (d : KeptHeld) (held : List Held) (places : List ℕ) → i < length list
+    → AreFound (said_all (take i list)) held places → ((place : ℕ) → IsAt (said_held (get_or list i d)) held place → ⊥)
+    → AreFound (said_all (take (i + 1) list)) held places
+next-absent list i d held places inside found absent =
+    subst (λ (some : List Held). AreFound some held places) (said-more list i d inside)
+    (found-absent (said_all (take i list)) held places (said_held (get_or list i d)) found absent)
 
-pub next-present : (list : List KeptHeld) (i : ℕ) (d : KeptHeld) (held : List Held) (places new : List ℕ) (end place : ℕ) → i < length list
-    → Found (said_all (take i list)) held places end → end ≤ place
+pub next-present : (list : List KeptHeld) (i : ℕ) (d : KeptHeld) (held : List Held) (places new : List ℕ) (place : ℕ) → i < length list
+    → AreFound (said_all (take i list)) held places
     → (place < length held) × ((other : ℕ) → IsAt (said_held (get_or list i d)) held other → other ≡ place)
-    → new ≡ places ++ place ∷ [] → Found (said_all (take (i + 1) list)) held new (place + 1)
-next-present list i d held places new end place inside found past is new_is =
-    subst (λ (more : List ℕ). Found (said_all (take (i + 1) list)) held more (place + 1)) (sym new_is)
-    (subst (λ (some : List Held). Found some held (places ++ place ∷ []) (place + 1)) (said-more list i d inside)
-    (found-present (said_all (take i list)) held places end (said_held (get_or list i d)) place found past is.0 is.1))
+    → new ≡ places ++ place ∷ [] → AreFound (said_all (take (i + 1) list)) held new
+next-present list i d held places new place inside found is new_is =
+    subst (λ (more : List ℕ). AreFound (said_all (take (i + 1) list)) held more) (sym new_is)
+    (subst (λ (some : List Held). AreFound some held (places ++ place ∷ [])) (said-more list i d inside)
+    (found-present (said_all (take i list)) held places (said_held (get_or list i d)) place found is.0 is.1))
 
-pub found-whole : (list : List KeptHeld) (i : ℕ) (held : List Held) (places : List ℕ) (end : ℕ) → length list ≤ i
-    → Found (said_all (take i list)) held places end → HaveAll (said_all list) held places
-found-whole list i held places end done found =
-    found-end (said_all list) held places end
-    (subst (λ (all : List KeptHeld). Found (said_all all) held places end) (take_all i list done) found)
+pub found-whole : (list : List KeptHeld) (i : ℕ) (held : List Held) (places : List ℕ) → length list ≤ i
+    → AreFound (said_all (take i list)) held places → AreFound (said_all list) held places
+found-whole list i held places done found =
+    subst (λ (all : List KeptHeld). AreFound (said_all all) held places) (take_all i list done) found
 
 -- ---- what stands at places
 

@@ -11,7 +11,7 @@ use Rattle.std.proofs.lemmas.Map.Views.{Contains-from_any}
 use Rattle.std.proofs.Math.Bool.{or-false}
 use Rattle.std.proofs.Math.ListN.{get_or-map}
 use Rattle.std.proofs.lemmas.Bool.{cases_Bool, eq-eqb, eqb-true, or_cases, or_parts}
-use Rattle.std.proofs.lemmas.List.{get_or-drop, get_or-set_other, get_or-set_same, length-drop, length-map, map-set, set_split, take-append-drop}
+use Rattle.std.proofs.lemmas.List.{get_or-drop, get_or-set_other, get_or-set_same, length-drop, length-map, map-append, map-set, set_split, take-append-drop}
 use Rattle.std.proofs.lemmas.List.Elements.{Contains-append_cases, Contains-append_left, Contains-append_right}
 use Rattle.checker_state.specs.declared.bound.Rebinding.{Rebinding}
 use Rattle.checker_state.specs.declared.bound.Rebinding.TheVariants as rebinding
@@ -26,7 +26,7 @@ use Rattle.checker_known.specs.declared.resting.Resting.{Resting}
 use Rattle.checker_known.specs.Resting.{AreListed, IsListed, Lists, ListsMore, Puts, has, is_left, listed, root_of}
 use Rattle.checker_state.proofs.HeldOrders.{held-same}
 use Rattle.std.specs.Bool.{OnTrue}
-use Rattle.checker_known.proofs.HeldLists.{insert-said, said_all}
+use Rattle.checker_known.proofs.HeldLists.{said_all}
 use Rattle.checker_known.proofs.InOrder.{held-turned}
 
 -- ---- what is in a list with one more, one less, or another one
@@ -364,16 +364,17 @@ whole-less held less a was among whole = λ other has. was whole other (among ot
 
 -- ---- one more in a list
 
-pub puts-inserted : (one : KeptHeld) (list new : List KeptHeld) (place : ℕ) (done : Bool) → new ≡ cond done (insert list place one) list
+pub puts-pushed : (one : KeptHeld) (list new : List KeptHeld) (done : Bool) → new ≡ cond done (list ++ one ∷ []) list
     → OnTrue done (Puts (said_held one) (said_all list) (said_all new))
-puts-inserted one list new place true is =
-    let all : said_all new ≡ insert (said_all list) place (said_held one) = ap said_all is ∙ insert-said list place one in
+puts-pushed one list new true is =
+    let all : said_all new ≡ said_all list ++ said_held one ∷ [] = ap said_all is ∙ map-append said_held list (one ∷ []) in
     record {
-      there = subst (λ (some : List Held). Contains some (said_held one)) (sym all) (is-inserted (said_all list) place (said_held one));
+      there = subst (λ (some : List Held). Contains some (said_held one)) (sym all)
+          (Contains-append_right (said_all list) (said_held one ∷ []) (said_held one) (0, omega arith, refl));
       keeps = λ other has.
-          subst (λ (some : List Held). Contains some other) (sym all) (in-inserted (said_all list) place (said_held one) other has);
+          subst (λ (some : List Held). Contains some other) (sym all) (Contains-append_left (said_all list) (said_held one ∷ []) other has);
     }
-puts-inserted one list new place false is = tt
+puts-pushed one list new false is = tt
 
 pub puts-same : (one : Held) (list : List Held) → Contains list one → Puts one list list
 puts-same one list there = record { there = there; keeps = λ other has. has }

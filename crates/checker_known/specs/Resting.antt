@@ -83,7 +83,12 @@ IsFound one held (Some place) = (place < length held) × ((other : ℕ) → IsAt
 abbrev pub HasAllAt : (places : List ℕ) → (held list : List Held) → Type 0
 HasAllAt places held list = (one : Held) (place : ℕ) → Contains places place → IsAt one held place → Contains list one
 
--- places of what is held, with those of all that stands in a list
+-- places of what is held, in any order, with those of all that stands in a list
+pub record AreFound (list : List Held) (held : List Held) (places : List ℕ) : Type 0 where
+  pub inside : (place : ℕ) → Contains places place → place < length held
+  pub there : (one : Held) (place : ℕ) → Contains list one → IsAt one held place → Contains places place
+
+-- the same places, each behind the one before
 pub record HaveAll (list : List Held) (held : List Held) (places : List ℕ) : Type 0 where
   pub rising : AreRising 0 places (length held)
   pub there : (one : Held) (place : ℕ) → Contains list one → IsAt one held place → Contains places place

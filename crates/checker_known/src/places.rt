@@ -1,7 +1,7 @@
 ghost use Rattle.std.specs.Prelude.{◌≡◌, IfOk, IfSome, map};
 ghost use Rattle.checker_state.specs.View.{said_held};
 ghost use Rattle.checker_known.specs.Known.{core};
-ghost use Rattle.checker_known.specs.Resting.{AreChanging, HasAllAt, HaveAll, IsFound, listed};
+ghost use Rattle.checker_known.specs.Resting.{AreChanging, AreFound, HasAllAt, HaveAll, IsFound, listed};
 
 use crate::halves::{Test, edge};
 use crate::known::Known;
@@ -23,32 +23,41 @@ impl Known {
         if root >= self.resting.lists.len() {
             return None;
         }
-        let places = self.places_of(alloc, &self.resting.lists[root])?;
+        let Ok(places) = self.places_of(alloc, &self.resting.lists[root]) else {
+            return None;
+        };
         if places.len() < self.resting.lists[root].len() {
             self.relist(alloc, root, &places);
         }
         Some(places)
     }
 
-    // Where those of a list are held, each place behind the one before. `None`: there is no memory for them, or they
-    // don't stand in the order of what is held.
-    fn places_of(&self, alloc: Global, list: &[Held]) -> Option<Vec<usize>>
+    // Where those of a list are held, each place behind the one before.
+    fn places_of(&self, alloc: Global, list: &[Held]) -> Result<Vec<usize>, AllocError>
         requires { self.now.disorder ≡ 0 }
-        ensures { IfSome result (λ places.
+        ensures { IfOk result (λ places.
             HaveAll (map said_held list.now) (map said_held self.now.held.items) places.items) }
     {
+        let mut places = self.found_places(alloc, list)?;
+        places.sort_unstable();
+        places.dedup();
+        Ok(places)
+    }
+
+    // The place of each one of a list that is held.
+    fn found_places(&self, alloc: Global, list: &[Held]) -> Result<Vec<usize>, AllocError>
+        requires { self.now.disorder ≡ 0 }
+        ensures { IfOk result (λ places.
+            AreFound (map said_held list.now) (map said_held self.now.held.items) places.items) }
+    {
         let mut places = Vec::new(alloc);
-        let mut end = 0;
         for one in list {
             let Some(place) = self.found(one) else {
                 continue;
             };
-            if place < end || places.push(place).is_err() {
-                return None;
-            }
-            end = place + 1;
+            places.push(place)?;
         }
-        Some(places)
+        Ok(places)
     }
 
     // Where something is held, by halves. `None`: it is not.

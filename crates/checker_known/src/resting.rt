@@ -5,14 +5,14 @@ ghost use Rattle.checker_state.specs.State.{Stretched};
 ghost use Rattle.checker_state.specs.View.{said_bound, said_held, said_order, said_span, said_stretch};
 ghost use Rattle.checker_known.specs.Resting.{Lists, ListsMore, Puts, root_of};
 
-use crate::halves::{Test, edge};
 use checker_state::{Bound, Held, Order, Rebinding, Span, Stretch};
 use std::alloc::{AllocError, Global};
 
-/// What is held, by the number of each variable on whose value it rests. A list may have what is held no longer.
+/// What is held, by the number of each variable on whose value it rests. A list may have what is held no longer, and
+/// the same twice.
 #[derive(Drop)]
 pub struct Resting {
-    /// Each in the order of what is held.
+    /// Each in the order in which it came to be held.
     pub(crate) lists: Vec<Vec<Held>>,
     /// `false`: something that is held may be in no list.
     pub(crate) is_whole: bool,
@@ -112,15 +112,14 @@ impl Resting {
     }
 }
 
-// Puts something into a list where it comes in the order, unless it stands there. `false`: there is no memory for it.
+// Puts something behind a list, unless it is its last. `false`: there is no memory for it.
 fn put(list: &mut Vec<Held>, held: &Held) -> bool
     ensures { OnTrue result (Puts (said_held held.now) (map said_held list.old.items) (map said_held list.new.items)) }
 {
-    let place = edge(list, Test::Below(*held), 0, list.len()).min(list.len());
-    if place < list.len() && held.is_same(&list[place]) {
-        return true;
+    match list.last() {
+        Some(last) if last.is_same(held) => true,
+        _ => list.push(*held).is_ok(),
     }
-    list.insert(place, *held).is_ok()
 }
 
 /// The variable that is rebound.

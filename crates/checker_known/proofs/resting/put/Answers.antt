@@ -1,8 +1,8 @@
 use Rattle.std.proofs.Common.{is_ok}
-use Rattle.checker_known.proofs.Listed.{puts-inserted}
+use Rattle.checker_known.proofs.Listed.{puts-pushed}
 use Rattle.checker_known.proofs.resting.put.Goals as goal
 
-pub returns : goal.returns
-returns c =
+pub returns-in_default : goal.returns-in_default
+returns-in_default c =
     rw c.is_ok.ensures.value
-    (puts-inserted c.args.held.now c.args.list.now.items c.insert.new.self.items c.min-place.result (is_ok c.insert.result) c.insert.ensures.items)
+    (puts-pushed c.args.held.now c.args.list.now.items c.push.new.self.items (is_ok c.push.result) c.push.ensures.items)
