@@ -5,7 +5,8 @@ use Rattle.pcode_assembler.specs.declared.code.Code.{Code}
 use Rattle.pcode_assembler.specs.declared.code.Site.{Site as Plain}
 use Rattle.pcode_assembler.specs.declared.code.Point.{Point as PlainPoint}
 use Rattle.std.proofs.Common.{ℕ, ◌≤◌, ◌||◌, Bool, false, nat_lt, arith}
-use Rattle.std.proofs.lemmas.Bool.{and_from, and_parts}
+use Rattle.std.specs.Prelude.{nat_le}
+use Rattle.std.proofs.lemmas.Bool.{and_from, and_parts, leb-true}
 use Rattle.std.proofs.lemmas.Bool.Decides.{nat_tests}
 use Rattle.pcode_assembler.specs.Bounds.{in_bounds}
 use Rattle.pcode_assembler.specs.Contents.{HasText}
@@ -19,7 +20,7 @@ use Rattle.typed_tree.specs.Sites.{number_of}
 use Rattle.code_scheme.specs.Code.{program_code}
 use Rattle.code_scheme.specs.Large.{has_large_frame, is_too_large}
 use Rattle.code_scheme.proofs.Bounds.{program_in_bounds, program_names}
-use Rattle.code_generator.specs.Tables.{FitsText, IsNumbered, in_plain_numbers, point_in_plain_numbers, point_table, site_table}
+use Rattle.code_generator.specs.Tables.{IsNumbered, has_room, in_plain_numbers, is_spelled, point_in_plain_numbers, point_table, site_table}
 
 kind_is : (k : SiteKind) → is_kind (number_of k) ≡ true
 kind_is kind.Index = refl
@@ -67,7 +68,8 @@ writable tree code is sites_are points_are well numbered =
           (subst AreNumbered (sym (same_ids sites))
           (numbered.sites ∙ ap (range_with_len 0) (sym (length-map sites (λ (site : Site). site.id)))));
       points = subst (λ (ps : List PlainPoint). AreNumbered (map (λ (point : PlainPoint). point.id) ps)) (sym points_are)
-          (subst AreNumbered (sym (same_point_ids points)) numbered.points);
+          (subst AreNumbered (sym (same_point_ids points))
+          (numbered.points ∙ ap (range_with_len 0) (sym (length-map points (λ (point : Point). point.id)))));
       kinds = ap (list_all (λ (site : Plain). is_kind site.kind)) sites_are ∙ kinds_are sites;
     }
 
@@ -78,29 +80,33 @@ few_code n true other is small = absurd cc
 few_code n false other is small = grind (arith, nat_tests)
 
 pub has_text : (tree : Tree) (code : Code) → code.instructions.items ≡ program_code tree → code.sites.items ≡ site_table tree.sites.items
-    → code.points.items ≡ point_table tree.points.items → is_too_large tree ≡ false → IsWellFormed tree → FitsText tree → HasText code
-has_text tree code is sites_are points_are small well fits =
+    → code.points.items ≡ point_table tree.points.items → is_too_large tree ≡ false → has_room tree ≡ true → IsWellFormed tree → IsNumbered tree
+    → HasText code
+has_text tree code is sites_are points_are small fits well numbered =
     let sites = tree.sites.items in
     let points = tree.points.items in
     let few = few_code (length (program_code tree)) _ (has_large_frame tree 0 tree.blocks.items) refl small in
+    let room = and_parts (nat_le (length sites) 1000000) _ fits in
+    let rooms = and_parts (nat_le (length points) 1000000) _ room.1 in
+    let places = and_parts (list_all (λ (site : Site). is_spelled site.place) sites) _ rooms.1 in
     record {
-      writable = writable tree code is sites_are points_are well fits.numbered;
-      few_sites = omega (arith, ap length sites_are, length-map sites in_plain_numbers, fits.few_sites);
-      few_points = omega (arith, ap length points_are, length-map points point_in_plain_numbers, fits.few_points);
+      writable = writable tree code is sites_are points_are well numbered;
+      few_sites = omega (arith, ap length sites_are, length-map sites in_plain_numbers, leb-true (length sites) 1000000 room.0);
+      few_points = omega (arith, ap length points_are, length-map points point_in_plain_numbers, leb-true (length points) 1000000 rooms.0);
       few_instructions = omega (arith, ap length is, few);
-      site_places = ap (list_all (λ (site : Plain). is_place site.line && is_place site.column)) sites_are ∙ site_places_are sites fits.site_places;
+      site_places = ap (list_all (λ (site : Plain). is_place site.line && is_place site.column)) sites_are ∙ site_places_are sites places.0;
       point_places = ap (list_all (λ (point : PlainPoint). is_place point.line && is_place point.column)) points_are
-          ∙ point_places_are points fits.point_places;
+          ∙ point_places_are points places.1;
     }
   where
-    site_places_are : (sites : List Site) → list_all (λ (site : Site). is_place site.place.line && is_place site.place.column) sites ≡ true
+    site_places_are : (sites : List Site) → list_all (λ (site : Site). is_spelled site.place) sites ≡ true
         → list_all (λ (site : Plain). is_place site.line && is_place site.column) (site_table sites) ≡ true
     site_places_are [] all = refl
     site_places_are (site ∷ sites) all =
         let parts = and_parts (is_place site.place.line && is_place site.place.column) _ all in
         and_from _ _ parts.0 (site_places_are sites parts.1)
 
-    point_places_are : (points : List Point) → list_all (λ (point : Point). is_place point.place.line && is_place point.place.column) points ≡ true
+    point_places_are : (points : List Point) → list_all (λ (point : Point). is_spelled point.place) points ≡ true
         → list_all (λ (point : PlainPoint). is_place point.line && is_place point.column) (point_table points) ≡ true
     point_places_are [] all = refl
     point_places_are (point ∷ points) all =

@@ -11,8 +11,8 @@ use thiserror::Error;
 pub enum GenFault {
     #[error("no memory")]
     Memory,
-    /// G1: over 1,000,000 instructions; a block whose frame has over 16,777,216 cells, which no program text has; or
-    /// one with over 65,536 cells of parameters.
+    /// G1: over 1,000,000 instructions, or a block with over 65,536 cells of parameters. No program text has what it is
+    /// told of too: a frame of over 16,777,216 cells, and sites or points for which a text of code has no room.
     #[error("code that is too large")]
     TooLarge,
 }

@@ -19,7 +19,7 @@ use Rattle.certificate.specs.declared.fault.ReadFault.TheVariants as read
 use Rattle.certificate.specs.Text.{first_fault}
 use Rattle.code_generator.specs.declared.fault.GenFault.{GenFault}
 use Rattle.code_generator.specs.declared.fault.GenFault.TheVariants as generate
-use Rattle.code_scheme.specs.Large.{is_too_large}
+use Rattle.code_generator.specs.Tables.{has_no_code}
 use Rattle.report_text.specs.declared.fault.Fault.{Fault}
 use Rattle.report_text.specs.declared.fault.Fault.TheVariants.{Memory, Lex, Parse, Typing, Certificate, Check, Code, Generate}
 use Rattle.report_text.specs.Faults.{lexer_fault, parser_fault, typing_fault, certificate_fault, checker_fault, generator_fault}
@@ -78,7 +78,7 @@ checking-refusal source text tree certificate (check.Broken rule place) are h = 
 -- code is refused where there is too much of it
 pub generation-refusal : (source : List ℕ) (text : Option (List ℕ)) (tree : Tree) (certificate : CertificateRead) (fault : GenFault)
     → AreOf source text tree certificate
-    → (program_walk tree certificate).broken ≡ [] → (fault ≡ generate.TooLarge → is_too_large tree ≡ true)
+    → (program_walk tree certificate).broken ≡ [] → (fault ≡ generate.TooLarge → has_no_code tree ≡ true)
     → IsRefusal source text (generator_fault fault)
 generation-refusal source text tree certificate generate.Memory are unbroken h = tt
 generation-refusal source text tree certificate generate.TooLarge are unbroken h = (tree, certificate, are, unbroken, h refl)

@@ -5,12 +5,13 @@ use Rattle.typed_tree.specs.declared.tree.Tree.{Tree}
 use Rattle.typed_tree.specs.declared.site.Site.{Site}
 use Rattle.typed_tree.specs.Entries.{AreNumbered, entries_of}
 use Rattle.typed_tree.specs.WellFormed.{IsWellFormed}
-use Rattle.typed_tree.specs.Ids.{AreInOrder, AreByPlace}
+use Rattle.typed_tree.specs.Ids.{AreInOrder, AreByPlace, ArePointsInOrder}
 use Rattle.typing.specs.Sound.{stands}
 use Rattle.certificate.specs.declared.Certificate.{Certificate}
 use Rattle.cert_checker.specs.declared.Verdict.{Verdict}
 use Rattle.cert_checker.specs.Promise.{CallsChangeWhatTheyList, ClosedNeverErr, StatesHold, Valid}
 use Rattle.pcode_assembler.specs.declared.code.Code.{Code}
+use Rattle.pcode_assembler.specs.Contents.{HasText}
 use Rattle.code_scheme.specs.Code.{program_code}
 use Rattle.code_generator.specs.Follows.{Follows}
 use Rattle.code_generator.specs.Tables.{site_table, point_table}
@@ -19,11 +20,12 @@ use Rattle.report.specs.Headline.{Headline, IsTypedTreeOf}
 use Rattle.report.specs.Refusals.{Serves}
 use Rattle.report.specs.Whole.{IsStripped}
 
--- a typed tree of a source: its names are in its tables, its sites in order, by place and then by kind, its entries
--- numbered
+-- a typed tree of a source: its names are in its tables, its sites in order, by place and then by kind, its points in
+-- order, its entries numbered
 pub record IsSoundTreeOf (source : List ℕ) (tree : Tree) : Type 0 where
   pub well_formed : IsWellFormed tree
   pub in_order : AreInOrder tree.sites.items
+  pub points_in_order : ArePointsInOrder tree.points.items
   pub numbered : AreNumbered tree
   pub by_place : AreByPlace (map stands tree.sites.items)
   pub typed : IsTypedTreeOf tree source
@@ -44,6 +46,8 @@ pub record AreCodes (tree : Tree) (open_sites : List Site) (full stripped : Code
   pub sites : full.sites.items ≡ site_table tree.sites.items
   pub points : full.points.items ≡ point_table tree.points.items
   pub follows : Follows full tree
+  pub text : HasText full
+  pub less_text : HasText stripped
   pub less : IsStripped tree open_sites stripped
   pub headline : Headline tree open_sites stripped
 

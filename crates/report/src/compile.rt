@@ -2,6 +2,7 @@ ghost use Rattle.std.specs.Prelude.{◌≡◌, ℕ, List, Option, None, false, l
 ghost use Rattle.certificate.specs.declared.Certificate.{Certificate as CertificateRead};
 ghost use Rattle.cert_checker.specs.Promise.{CallsChangeWhatTheyList, StatesHold, Valid};
 ghost use Rattle.code_scheme.specs.Code.{program_code};
+ghost use Rattle.pcode_assembler.specs.Contents.{HasText};
 ghost use Rattle.code_generator.specs.Follows.{Follows};
 ghost use Rattle.code_generator.specs.Tables.{site_table, point_table};
 ghost use Rattle.report.specs.Headline.{Headline, IsTypedTreeOf};
@@ -73,6 +74,10 @@ pub fn compile(alloc: Global, source: &[u8], certificate: Option<&[u8]>) -> Resu
 
     // With all its checks the code follows the program too.
     ensures follows { IfOk result (λ c. Follows c.full c.tree) }
+
+    // Both codes have a text, which is read again as the same code.
+    ensures text { IfOk result (λ c. HasText c.full) }
+    ensures stripped_text { IfOk result (λ c. HasText c.stripped) }
 
     // The code is that of the tree, and the stripped code is without the checks of the sites that aren't open.
     ensures full { IfOk result (λ c. c.full.instructions.items ≡ program_code c.tree) }

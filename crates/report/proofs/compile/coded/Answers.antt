@@ -1,8 +1,11 @@
+use Rattle.std.specs.Prelude.{not}
 use Rattle.std.proofs.Common.{◌≡◌, ◌∙◌, ap, subst, Err}
+use Rattle.std.proofs.lemmas.Bool.{or_parts}
 use Rattle.std.proofs.lemmas.Result.{err_from_is_err_and}
 use Rattle.check_remover.specs.Strip.{strip, KeepsInstructions}
 use Rattle.code_scheme.specs.Code.{program_code}
-use Rattle.code_generator.specs.Tables.{site_table}
+use Rattle.code_scheme.specs.Large.{is_too_large}
+use Rattle.code_generator.specs.Tables.{has_room, site_table}
 use Rattle.report.proofs.OpenSites.{errs_at_open}
 use Rattle.report.proofs.RefusalLemmas.{refused_by, generation-refusal}
 use Rattle.report.proofs.compile.coded.Goals as goal
@@ -14,7 +17,8 @@ returns c = λ source text certificate sound judged.
     let full = c.in_ok-full.full in
     let stripped = c.in_ok-stripped.stripped in
     let open_sites = c.args.verdict.now.open_sites.items in
-    let few = c.in_ok-full.ensures.small in
+    let few = or_parts (is_too_large tree) (not (has_room tree)) c.in_ok-full.ensures.small in
+    let written = c.in_ok-full.ensures.text sound.well_formed (record { sites = sound.in_order; points = sound.points_in_order }) in
     let listed = c.deref.ensures.value ∙ c.in_ok-open_sites.ensures in
     let keeps = subst (λ sites. KeepsInstructions sites (program_code tree) stripped.instructions.items) listed
     (subst (λ code. KeepsInstructions c.deref.result.now code stripped.instructions.items) c.in_ok-full.ensures.instructions c.in_ok-stripped.ensures.kept) in
@@ -25,6 +29,8 @@ returns c = λ source text certificate sound judged.
       sites = c.in_ok-full.ensures.sites;
       points = c.in_ok-full.ensures.points;
       follows = c.in_ok-full.ensures.follows sound.well_formed;
+      text = written;
+      less_text = c.in_ok-stripped.ensures.text written c.in_ok-full.ensures.last;
       less = record {
         instructions = c.in_ok-stripped.ensures.instructions ∙ ap (λ sites. strip sites full.instructions.items) listed
             ∙ ap (strip _) c.in_ok-full.ensures.instructions;
@@ -33,7 +39,7 @@ returns c = λ source text certificate sound judged.
       };
       headline = record {
         closed_never_err = judged.closed_never_err;
-        follows = c.stripped_follows.ensures tree (site_table open_sites) stripped sound.well_formed few sites points keeps
+        follows = c.stripped_follows.ensures tree (site_table open_sites) stripped sound.well_formed few.0 sites points keeps
             (errs_at_open tree open_sites judged.closed_never_err);
       };
     }

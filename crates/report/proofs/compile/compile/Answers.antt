@@ -31,6 +31,12 @@ returns-clause-calls_change c =
 pub returns-clause-follows : goal.returns-clause-follows
 returns-clause-follows c = if_whole _ c.args.source.now (given c.args.certificate) c.whole.result c.whole.ensures (λ compiled h. h.codes.follows)
 
+pub returns-clause-text : goal.returns-clause-text
+returns-clause-text c = if_whole _ c.args.source.now (given c.args.certificate) c.whole.result c.whole.ensures (λ compiled h. h.codes.text)
+
+pub returns-clause-stripped_text : goal.returns-clause-stripped_text
+returns-clause-stripped_text c = if_whole _ c.args.source.now (given c.args.certificate) c.whole.result c.whole.ensures (λ compiled h. h.codes.less_text)
+
 pub returns-clause-full : goal.returns-clause-full
 returns-clause-full c = if_whole _ c.args.source.now (given c.args.certificate) c.whole.result c.whole.ensures (λ compiled h. h.codes.instructions)
 

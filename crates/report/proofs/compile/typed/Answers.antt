@@ -11,6 +11,7 @@ returns c =
     record {
       well_formed = c.in_ok-tree.ensures.well_formed;
       in_order = c.in_ok-tree.ensures.in_order;
+      points_in_order = c.in_ok-tree.ensures.points_in_order;
       numbered = c.in_ok-tree.ensures.numbered;
       by_place =
           c.in_ok-tree.ensures.by_place
