@@ -19,6 +19,7 @@ r"""Reads the cases of tests/cases, for `tests/run` and `tests/refuse_memory`. A
     source         the text of source.pas, whose path is the last word
     certificate    the text of source.cert, whose path stands behind the word --cert in front of the others
     code           the text of source.code, which pint runs: its path is the last word
+    instructions   the same without its first and its last line, and `; ` stands for the end of a line in it
     runs pint      the program is pint too, without a code's text; a case of neither has a source or a line of words
     code with checks, code without checks    the code is written to saved.code, whose path stands behind the source's,
                    and some of its lines begin with a check, or none does
@@ -31,11 +32,11 @@ r"""Reads the cases of tests/cases, for `tests/run` and `tests/refuse_memory`. A
     writes nowhere, tells nowhere    the stream takes no byte: each call that writes to it fails
     status N       the status, 0 where none is given
 
-Behind `source`, `certificate`, `input`, `writes`, `tells` and `saves` stand the lines of the text. `|TEXT` is a line
-with its end, and without its end where the last character is `\`. `N|TEXT` is TEXT N times, without a line end, and
-`\#` in it is the number of the copy: `3|x\#+` is `x1+x2+x3+`. `\xHH` is a byte, `\\` is a backslash, and a blank at the
-end of a line is `\x20`. An empty line or a comment ends a text. Comments begin with `#` and may stand between all
-lines. In a word too `\xHH` is a byte and `\\` is a backslash."""
+Behind `source`, `certificate`, `code`, `instructions`, `input`, `writes`, `tells` and `saves` stand the lines of the
+text. `|TEXT` is a line with its end, and without its end where the last character is `\`. `N|TEXT` is TEXT N times,
+without a line end, and `\#` in it is the number of the copy: `3|x\#+` is `x1+x2+x3+`. `\xHH` is a byte, `\\` is a
+backslash, and a blank at the end of a line is `\x20`. An empty line or a comment ends a text. Comments begin with `#`
+and may stand between all lines. In a word too `\xHH` is a byte and `\\` is a backslash."""
 
 import os
 import re
@@ -48,7 +49,7 @@ CODE = "source.code"
 SAVED = "saved.cert"
 SAVED_CODE = "saved.code"
 ENDING = ".cases"
-TEXTS = ("source", "certificate", "code", "input", "writes", "tells", "saves")
+TEXTS = ("source", "certificate", "code", "instructions", "input", "writes", "tells", "saves")
 CHECKS = ("chk", "ckz", "ckd", "cka", "cks", "ckm", "ckq", "ckr", "ckb", "err")
 STREAMS = ("writes", "tells")
 # A device that takes no byte.
@@ -169,7 +170,16 @@ def read_case(lines):
             raise Fault(place, "a line of text that belongs to nothing")
         else:
             parts[text] += text_of(place, *found.groups())
+    if "instructions" in parts:
+        parts["code"] = code_of(begin, parts)
     return checked(begin, Case(name_of(begin, head), begin, **parts), parts)
+
+
+def code_of(place, parts):
+    """The text of a code whose instructions are given."""
+    if "code" in parts:
+        raise Fault(place, "a code is given by its text or by its instructions")
+    return b"pcode 1\n" + parts.pop("instructions").replace(b"; ", b"\n") + b"end\n"
 
 
 def check_bytes(place, line):
