@@ -19,29 +19,19 @@ fn generated(alloc: Global, tree: Result<Tree, TypeFault>) -> Result<Code, GenFa
     }
 }
 
-/// The code of a program with two variables.
-fn code_of(alloc: Global, statements: &str) -> Result<Code, GenFault> {
-    generated(alloc, tree_of(alloc, "a, b: integer", statements))
-}
-
-/// What the run of a program writes in a store of so many cells, and behind it how it stops.
+/// What the run of a program with two variables writes in a store of so many cells, and behind it how it stops.
 fn code_run_told(alloc: Global, row: &(&str, u32)) -> Result<String, Fail> {
-    let code = code_of(alloc, row.0)?;
+    let code = generated(alloc, tree_of(alloc, "a, b: integer", row.0))?;
     run_told(alloc, &code, row.1.max(1).min(9), 1000)
 }
 
 /// Programs and the cells of the store, of which a width beside its value takes one, and so does what is assigned to.
-static RUNS: [((&str, u32), &str); 8] = [
+static RUNS: [((&str, u32), &str); 4] = [
     (
         ("a := 7; b := a - 10; writeln(a + b, -a)", 9),
         "         4        -7\n",
     ),
     (("a := 7; b := a - 10; writeln(a + b, -a)", 8), "full"),
-    (("write(-7 mod 2)", 8), "        -1"),
-    // The left operand is undefined, and it is the first that is looked at.
-    (("write(a div b)", 8), "error"),
-    (("write(true : 2, 5 : 1)", 8), "tr5"),
-    (("write(sqr(9))", 8), "        81"),
     (("write(1 : 1 + 2)", 9), "  1"),
     (("write(1 : 1 + 2)", 8), "full"),
 ];

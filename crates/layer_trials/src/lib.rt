@@ -5,8 +5,6 @@
 #![tactic(auto)]
 
 #[cfg(test)]
-mod calling;
-#[cfg(test)]
 mod certificates;
 #[cfg(test)]
 mod checking;
@@ -23,14 +21,8 @@ mod ranges;
 #[cfg(test)]
 mod removal;
 #[cfg(test)]
-mod rows_of_cells;
-#[cfg(test)]
-mod rows_of_sets;
-#[cfg(test)]
 mod running;
 #[cfg(test)]
 mod sources;
-#[cfg(test)]
-mod stretches;
 #[cfg(test)]
 mod syntax;

@@ -4,31 +4,61 @@ use stack_machine::machine::Machine;
 use std::alloc::{AllocError, Global};
 use std::io;
 use std::test::Fail;
-use test_words::assembling::{RunRow, assembled, row_told};
+use test_words::assembling::assembled;
 use test_words::machines::{run_told, word_of};
 use test_words::rows::all_hold;
+
+/// A code, the cells of the store and a budget.
+type RunRow = (&'static str, u32, u64);
+
+/// What a run of a code without input writes, and behind it how it stops.
+fn row_told(alloc: Global, row: &RunRow) -> Result<String, Fail> {
+    let code = assembled(alloc, row.0)?;
+    run_told(alloc, &code, row.1.max(1).min(4194304), row.2)
+}
 
 /// `7` in a width of 3, and a line end.
 const LINE: &str = "ent 0 2; ldc 7; ldc 3; wri; wln; stp";
 
-/// Runs that finish, find the store full, use up their budget, or end in an error or a fault.
-static RUNS: [(RunRow, &str); 8] = [
-    ((LINE, 6, 100), "  7\n"),
-    ((LINE, 5, 100), "full"),
+/// `procedure down(n); begin write(n); if n <> 0 then down(n - 1) end`, and a call of it with 3.
+const DOWN: &str = "ent 0 6; mst 0; ldc 3; cup 1 1; stp; \
+    label 1; ent 0 6; lod 0 4; ldc 1; wri; lod 0 4; fjp 2; mst 1; lod 0 4; ldc 1; sbi; cup 1 1; label 2; ret 0";
+
+/// A call that is the last instruction.
+const LAST: &str =
+    "ent 0 6; ujp 2; label 1; ent 0 2; ldc 7; ldc 1; wri; ret 0; label 2; mst 0; cup 0 1";
+
+/// A routine that calls itself for ever, in frames of 4 cells.
+const ENDLESS: &str = "ent 0 4; mst 0; cup 0 1; label 1; ent 0 4; mst 1; cup 0 1";
+
+/// Runs and what budgets leave of them.
+static BUDGETS: [(RunRow, &str); 8] = [
+    ((LINE, 6, 6), "  7\n"),
     ((LINE, 6, 5), "  7\nmore"),
     ((LINE, 3, 0), "full"),
-    (
-        ("ent 0 2; ldc 2147483647; ldc 1; cka; adi; stp", 6, 100),
-        "error",
-    ),
-    (("ent 0 2; adi", 6, 100), "M1"),
-    (("ldc 7", 6, 100), "M2"),
-    (("ent 0 2; lod 0 2; ngi", 6, 100), "M3"),
+    // 4 instructions, 12 for each of three calls, 7 for the last, and the last of the program.
+    ((DOWN, 30, 48), "3210"),
+    ((DOWN, 30, 47), "3210more"),
+    ((LAST, 20, 9), "7M2"),
+    ((LAST, 20, 8), "7more"),
+    ((ENDLESS, 4000100, 300), "more"),
 ];
 
 #[test]
-fn runs_to_each_kind_of_stop(rt: HostRuntime) -> Result<(), Fail> {
-    all_hold(rt.alloc(), &RUNS, row_told)
+fn stops_where_a_budget_ends(rt: HostRuntime) -> Result<(), Fail> {
+    all_hold(rt.alloc(), &BUDGETS, row_told)
+}
+
+/// A call to no instruction, which no text has: the one that it goes to is taken away.
+fn call_told(alloc: Global, budget: &u64) -> Result<String, Fail> {
+    let mut code = assembled(alloc, "ent 0 4; mst 0; cup 0 1; label 1; stp")?;
+    code.instructions.truncate(3);
+    run_told(alloc, &code, 20, *budget)
+}
+
+#[test]
+fn call_to_no_instruction_is_no_fault_itself(rt: HostRuntime) -> Result<(), Fail> {
+    all_hold(rt.alloc(), &[(3, "more"), (4, "M2")], call_told)
 }
 
 /// Takes so many bytes at a time, and fails once it has so many in all.
@@ -123,265 +153,6 @@ static NARROW: [(NarrowRow, &str); 5] = [
 #[test]
 fn writes_in_pieces_until_the_writer_fails(rt: HostRuntime) -> Result<(), Fail> {
     all_hold(rt.alloc(), &NARROW, narrow_told)
-}
-
-/// Operators, and numbers left and right of them.
-type OperatorRow = (&'static str, &'static [i32], &'static [i32]);
-
-/// What each of some operators makes of a number and another, for each of the first and each of the second ones; an
-/// operator of one operand takes the second. Where the run doesn't finish, how it stops.
-fn operators_told(alloc: Global, row: &OperatorRow) -> Result<String, Fail> {
-    let mut told = String::new(alloc);
-    for left in row.1 {
-        for right in row.2 {
-            tell_operators(alloc, row.0, (*left, *right), &mut told)?;
-        }
-    }
-    Ok(told)
-}
-
-fn tell_operators(
-    alloc: Global,
-    operators: &str,
-    (left, right): (i32, i32),
-    told: &mut String,
-) -> Result<(), Fail> {
-    for operator in operators.split(' ') {
-        told.push_str(operated(alloc, operator, left, right)?.as_str())?;
-        told.push(' ')?;
-    }
-    Ok(())
-}
-
-fn operated(alloc: Global, operator: &str, left: i32, right: i32) -> Result<String, Fail> {
-    let text = format!(in alloc; "ent 0 3; ldc {left}; ldc {right}; {operator}; ldc 1; wri; stp")?;
-    run_told(alloc, &assembled(alloc, text.as_str())?, 7, 100)
-}
-
-const OF_TWO: &str = "mpi dvi mod";
-
-const FACTORS: &[i32] = &[-2147483647, -1, 1, 46340, 46341, 2147483647];
-
-const DIVIDENDS: &[i32] = &[0, 7, -7, 2147483647, -2147483648];
-
-/// A number with each of the factors, a line each: their product of 32 bits, their quotient cut toward zero, and their
-/// modulo where the divisor is positive. Worked out by python3 over whole numbers of any size.
-static ARITHMETIC: [(OperatorRow, &str); 12] = [
-    (
-        (OF_TWO, &[-2147483647], FACTORS),
-        "1 1 M4 \
-        2147483647 2147483647 M4 \
-        -2147483647 -2147483647 0 \
-        46340 -46341 4633 \
-        -2147437307 -46340 4634 \
-        -1 -1 0 ",
-    ),
-    (
-        (OF_TWO, &[-1], FACTORS),
-        "2147483647 0 M4 \
-        1 1 M4 \
-        -1 -1 0 \
-        -46340 0 46339 \
-        -46341 0 46340 \
-        -2147483647 0 2147483646 ",
-    ),
-    (
-        (OF_TWO, &[0], FACTORS),
-        "0 0 M4 \
-        0 0 M4 \
-        0 0 0 \
-        0 0 0 \
-        0 0 0 \
-        0 0 0 ",
-    ),
-    (
-        (OF_TWO, &[1], FACTORS),
-        "-2147483647 0 M4 \
-        -1 -1 M4 \
-        1 1 0 \
-        46340 0 1 \
-        46341 0 1 \
-        2147483647 0 1 ",
-    ),
-    (
-        (OF_TWO, &[46340], FACTORS),
-        "46340 0 M4 \
-        -46340 -46340 M4 \
-        46340 46340 0 \
-        2147395600 1 0 \
-        2147441940 0 46340 \
-        -46340 0 46340 ",
-    ),
-    (
-        (OF_TWO, &[46341], FACTORS),
-        "-2147437307 0 M4 \
-        -46341 -46341 M4 \
-        46341 46341 0 \
-        2147441940 1 1 \
-        -2147479015 1 0 \
-        2147437307 0 46341 ",
-    ),
-    (
-        (OF_TWO, &[2147483647], FACTORS),
-        "-1 -1 M4 \
-        -2147483647 -2147483647 M4 \
-        2147483647 2147483647 0 \
-        -46340 46341 41707 \
-        2147437307 46340 41707 \
-        1 1 0 ",
-    ),
-    // What isn't a divisor.
-    (("dvi", DIVIDENDS, &[0]), "M4 M4 M4 M4 M4 "),
-    (("mod", DIVIDENDS, &[0]), "M4 M4 M4 M4 M4 "),
-    (("mod", DIVIDENDS, &[-1]), "M4 M4 M4 M4 M4 "),
-    (("mod", DIVIDENDS, &[-46341]), "M4 M4 M4 M4 M4 "),
-    (("mod", DIVIDENDS, &[-2147483648]), "M4 M4 M4 M4 M4 "),
-];
-
-#[test]
-fn multiplies_and_divides(rt: HostRuntime) -> Result<(), Fail> {
-    all_hold(rt.alloc(), &ARITHMETIC, operators_told)
-}
-
-const ASCENDING: &[i32] = &[-2147483647, -1, 0, 1, 46340, 46341, 2147483647];
-
-const OF_ONE: &str = "abi sqi odd";
-
-/// Each of the ascending numbers in a line: its absolute value, its square of 32 bits, and whether it is odd. Worked
-/// out by python3 over whole numbers of any size. The least number of 32 bits has no positive.
-static SINGLE: [(OperatorRow, &str); 3] = [
-    (
-        (OF_ONE, &[0], ASCENDING),
-        "2147483647 1 1 \
-        1 1 1 \
-        0 0 0 \
-        1 1 1 \
-        46340 2147395600 0 \
-        46341 -2147479015 1 \
-        2147483647 1 1 ",
-    ),
-    (("abi", &[0], &[-2147483648]), "-2147483648 "),
-    (("dvi", &[-2147483648], &[-1]), "-2147483648 "),
-];
-
-#[test]
-fn takes_absolute_values_squares_and_parity(rt: HostRuntime) -> Result<(), Fail> {
-    all_hold(rt.alloc(), &SINGLE, operators_told)
-}
-
-/// What a relation gives of each of the ascending numbers, a word each, with each of them.
-fn relation_told(alloc: Global, relation: &&'static str) -> Result<String, Fail> {
-    let mut told = String::new(alloc);
-    for left in ASCENDING {
-        for right in ASCENDING {
-            told.push_str(operated(alloc, relation, *left, *right)?.as_str())?;
-        }
-        told.push(' ')?;
-    }
-    Ok(told)
-}
-
-/// The numbers stand in order, so they are related as their positions are.
-static RELATIONS: [(&str, &str); 6] = [
-    (
-        "equ",
-        "1000000 0100000 0010000 0001000 0000100 0000010 0000001 ",
-    ),
-    (
-        "neq",
-        "0111111 1011111 1101111 1110111 1111011 1111101 1111110 ",
-    ),
-    (
-        "les",
-        "0111111 0011111 0001111 0000111 0000011 0000001 0000000 ",
-    ),
-    (
-        "leq",
-        "1111111 0111111 0011111 0001111 0000111 0000011 0000001 ",
-    ),
-    (
-        "grt",
-        "0000000 1000000 1100000 1110000 1111000 1111100 1111110 ",
-    ),
-    (
-        "geq",
-        "1000000 1100000 1110000 1111000 1111100 1111110 1111111 ",
-    ),
-];
-
-#[test]
-fn compares(rt: HostRuntime) -> Result<(), Fail> {
-    all_hold(rt.alloc(), &RELATIONS, relation_told)
-}
-
-const JOINS: &str = "and ior";
-
-/// 0 is false, and all else is true.
-static TRUTHS: [(OperatorRow, &str); 7] = [
-    (("not", &[0], &[0, 1, 2, -1]), "1 0 0 0 "),
-    ((JOINS, &[0], &[0]), "0 0 "),
-    ((JOINS, &[0], &[1]), "0 1 "),
-    ((JOINS, &[1], &[0]), "0 1 "),
-    ((JOINS, &[1], &[1]), "1 1 "),
-    ((JOINS, &[1], &[2]), "1 1 "),
-    ((JOINS, &[-1], &[0]), "0 1 "),
-];
-
-#[test]
-fn joins_truths(rt: HostRuntime) -> Result<(), Fail> {
-    all_hold(rt.alloc(), &TRUTHS, operators_told)
-}
-
-/// What a run of one instruction over two numbers writes, and how it stops.
-fn two_told(alloc: Global, row: &(&'static str, i32, i32)) -> Result<String, Fail> {
-    let (instruction, first, second) = *row;
-    let text = format!(in alloc; "ent 0 2; ldc {first}; ldc {second}; {instruction}; stp")?;
-    run_told(alloc, &assembled(alloc, text.as_str())?, 6, 100)
-}
-
-/// Truth values in their widths.
-static BOOLEANS: [((&str, i32, i32), &str); 10] = [
-    (("wrb", 1, 5), " true"),
-    (("wrb", 1, 2), "tr"),
-    (("wrb", 1, 7), "   true"),
-    (("wrb", 1, 0), ""),
-    (("wrb", 1, -1), ""),
-    (("wrb", -3, 4), "true"),
-    (("wrb", 0, 5), "false"),
-    (("wrb", 0, 2), "fa"),
-    (("wrb", 0, 7), "  false"),
-    (("wrb", 0, 0), ""),
-];
-
-#[test]
-fn writes_booleans(rt: HostRuntime) -> Result<(), Fail> {
-    all_hold(rt.alloc(), &BOOLEANS, two_told)
-}
-
-/// A check and the two topmost numbers, and whether it stops the run. The check of a square looks at the second alone,
-/// and so does the check for zero.
-static CHECKS: [((&str, i32, i32), &str); 16] = [
-    (("ckz", 0, 1), ""),
-    (("ckz", 0, -1), ""),
-    (("ckz", 1, 0), "error"),
-    (("ckm", 46340, 46340), ""),
-    (("ckm", 46341, 46341), "error"),
-    (("ckm", -46340, 46340), ""),
-    (("ckm", -46341, 46341), "error"),
-    (("ckm", 2147483647, -1), ""),
-    (("ckm", -2147483648, 1), "error"),
-    (("ckm", 1073741824, -2), "error"),
-    (("ckm", -2147483648, 0), ""),
-    (("ckq", 0, 46340), ""),
-    (("ckq", 0, -46340), ""),
-    (("ckq", 0, 46341), "error"),
-    (("ckq", 0, -46341), "error"),
-    (("ckq", 0, -2147483648), "error"),
-];
-
-#[test]
-fn checks_zero_products_and_squares(rt: HostRuntime) -> Result<(), Fail> {
-    all_hold(rt.alloc(), &CHECKS, two_told)
 }
 
 #[test]

@@ -10,21 +10,6 @@ use std::alloc::Global;
 use std::test::Fail;
 use text_input::InputFault;
 
-/// The site of the checks in the codes that stand in tests.
-pub const CHECKED: Site = Site {
-    id: 0,
-    line: 1,
-    column: 8,
-    kind: 11,
-};
-
-/// The point at which the codes that stand in tests read.
-pub const READ: Point = Point {
-    id: 0,
-    line: 2,
-    column: 3,
-};
-
 /// How a run stops, in a word; none where it finishes. Of the errors that of the first site has a word of its own, and
 /// of the faults of the input those at the first point.
 pub fn word_of(stop: Stop) -> &'static str
