@@ -13,5 +13,4 @@ pub mod Steps
 pub mod Running
 pub mod Finishing
 pub mod Growing
-pub mod Bits
 pub mod Seen

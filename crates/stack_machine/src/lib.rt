@@ -7,7 +7,6 @@ mod form;
 mod halt;
 pub mod laws;
 pub mod machine;
-mod plane;
 mod rows;
 pub mod stop;
 mod store;

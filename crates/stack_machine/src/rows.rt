@@ -6,7 +6,7 @@ use crate::cells::number_of;
 
 /// How a row of numbers stands to another: -1, 0 or 1, by their first difference (ISO 7185:1990, 6.7.2.5).
 #[inline(never)]
-pub fn order(left: &[u128], right: &[u128]) -> i32
+pub fn order(left: &[u64], right: &[u64]) -> i32
     ensures { result ≡ rows.order (values left.now) (values right.now) }
 {
     for (a, b) in left.iter().zip(right) {

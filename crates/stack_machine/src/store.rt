@@ -201,7 +201,7 @@ impl Store {
     }
 
     /// `wrs`: the string on top, so many characters, and the width above it.
-    pub fn string(&self, length: u32) -> Result<(&[u128], i32), MachineFault>
+    pub fn string(&self, length: u32) -> Result<(&[u64], i32), MachineFault>
         ensures within { IfOk result (λ _. self.now.frame + 4 + (length + 1) ≤ self.now.used) }
         ensures value { MatchResult result
             (λ found. rows.string length (view self.now) ≡ Ok (values found.0.now, found.1))
@@ -319,7 +319,7 @@ impl Store {
     /// The words of so many cells, the first of which is so many from the top; they have to be numbers. Kept out of the
     /// run loop, whose registers it would take.
     #[inline(never)]
-    fn numbers(&self, place: usize, count: usize) -> Result<&[u128], MachineFault>
+    fn numbers(&self, place: usize, count: usize) -> Result<&[u64], MachineFault>
         requires in_use { place ≤ self.now.used }
         requires within { count ≤ place }
         ensures { MatchResult result

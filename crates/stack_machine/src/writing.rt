@@ -47,7 +47,7 @@ pub fn put_value<W: Sink>(
 /// characters where it is longer (ISO 7185:1990, 6.9.3.6).
 pub fn put_string<W: Sink>(
     to: &mut RunPorts,
-    words: &[u128],
+    words: &[u64],
     width: i32,
     writer: &mut W,
 ) -> Result<(), WriteFailed>
