@@ -14,3 +14,4 @@ pub mod Running
 pub mod Finishing
 pub mod Growing
 pub mod Seen
+pub mod Standing

@@ -6,12 +6,14 @@ pub mod Does
 pub mod Failures
 pub mod Frames
 pub mod Halts
+pub mod Hastens
 pub mod Laws
 pub mod Machine
 pub mod Ran
 pub mod Rows
 pub mod Run
 pub mod Sets
+pub mod Stands
 pub mod Texts
 pub mod View
 pub use Rattle.byte_ports.specs.Counted

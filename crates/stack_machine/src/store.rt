@@ -7,6 +7,7 @@ ghost use Rattle.stack_machine.specs.Rows as rows;
 
 mod addresses;
 mod calls;
+mod hastening;
 mod sets;
 
 use crate::cells::Cells;
