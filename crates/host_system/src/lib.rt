@@ -9,6 +9,7 @@ use clap::Error;
 use command_line::{CommandName, WordsFault, not_utf8, tell};
 use outside::Outside;
 use pcode_assembler::code::Code;
+use prepared_steps::steps::Prepared;
 use report_text::messages::put;
 use stack_machine::bytes::Counted;
 use stack_machine::machine::Machine;
@@ -68,9 +69,15 @@ impl Outside for System<'_> {
         true
     }
 
-    fn run(&mut self, machine: &mut Machine, code: &Code, budget: u64) -> Stop {
+    fn run(
+        &mut self,
+        machine: &mut Machine,
+        code: &Code,
+        prepared: &Prepared,
+        budget: u64,
+    ) -> Stop {
         let mut reader = Counted::new(self.rt.stdin());
         let mut writer = Counted::new(self.rt.stdout());
-        machine.run(code, &mut reader, &mut writer, budget)
+        machine.run_prepared(code, prepared, &mut reader, &mut writer, budget)
     }
 }

@@ -5,9 +5,11 @@ ghost use Rattle.std.specs.Prelude.{◌≢◌, ◌↔◌, IsTrue, List, Option, 
 ghost use Rattle.clap.specs.Words.{kind_of};
 ghost use Rattle.clap.specs.declared.error.kind.ErrorKind.TheVariants as ErrorKind;
 ghost use Rattle.stack_machine.specs.Does.{cell_count};
+ghost use Rattle.stack_machine.specs.Stands.{Stands};
 ghost use Rattle.outside.specs.Acts.{Act, Answered, Follows, IsRun, RanCode, ReadFile, Streams, Told, WroteFile};
 
 use pcode_assembler::code::Code;
+use prepared_steps::steps::Prepared;
 use stack_machine::machine::Machine;
 use stack_machine::stop::Stop;
 
@@ -36,9 +38,10 @@ pub trait Outside {
     fn tell(&mut self, parts: &[&[u8]]) -> bool
         ensures { Follows (acts self.old) (acts self.new) (Told (flat_map (λ part. part.now) parts.now) result) };
 
-    /// Runs a code on a machine for at most `budget` instructions, from standard input to standard output, and answers
-    /// how it stopped.
-    fn run(&mut self, machine: &mut Machine, code: &Code, budget: u64) -> Stop
+    /// Runs a code, for which these steps are prepared, on a machine for at most `budget` instructions, from standard
+    /// input to standard output, and answers how it stopped.
+    fn run(&mut self, machine: &mut Machine, code: &Code, prepared: &Prepared, budget: u64) -> Stop
+        requires { Stands code.now.instructions.items prepared.now }
         ensures { (before after : Streams) × IsRun code.now (cell_count machine.old) budget result before after
             × Follows (acts self.old) (acts self.new)
             (RanCode code.now (cell_count machine.old) budget result before after) };

@@ -3,7 +3,6 @@ use Rattle.std.proofs.Common.{◌≡◌, ℕ, List, [], ◌∷◌, ◌++◌, Opt
 use Rattle.std.specs.Prelude.{◌==◌, if◌then◌else◌}
 use Rattle.std.proofs.Common.{Ok, Err}
 use denote.Ref.{Bor}
-use Rattle.stack_machine.specs.declared.machine.Machine.{Machine}
 use Rattle.stack_machine.specs.declared.stop.Stop.{Stop}
 use Rattle.stack_machine.specs.Does.{cell_count}
 use Rattle.outside.specs.Acts.{Act, Follow, Told, WroteFile}
@@ -11,7 +10,8 @@ use Rattle.report_text.specs.Text.{stop_status}
 use Rattle.pcode_assembler.specs.declared.code.Code.{Code}
 use Rattle.report.specs.Courses.{Course, Goes, HasWritten, ends_with, file_status, run_status, runs, stops, unwritable_line, writes_if}
 use Rattle.report.specs.Pcom.{runs_if}
-use Rattle.report.specs.Prepared.{HasMachine, IsThereFor}
+use Rattle.report.specs.declared.ready.Ready.{Ready}
+use Rattle.report.specs.Prepared.{IsReadyIf, IsThereFor}
 
 -- acts follow behind others
 pub follow-then : (a b c : Option (List Act)) (one more : List Act) → Follow a b one → Follow b c more → Follow a c (one ++ more)
@@ -61,12 +61,12 @@ unwritten (Some path) wanted text failed a b c status next has wrote goes =
     (subst (λ (p : List ℕ). Goes b c status (ends_with (unwritable_line p) file_status)) wrote.0 goes)
     (λ (rest : List Act) done. (false, rest, ap (λ (t : List ℕ). WroteFile path t false ∷ rest) has, done))
 
--- where there is a machine, the words say that the code is run on it
-pub runs-on : (go : Bool) (machine : Machine) (code wanted : Code) (told : Bool) (given status : ℕ) (rest : List Act) (answer : ℕ)
-    → HasMachine go (Some machine) → code ≡ wanted → given ≡ status → runs code (cell_count machine) told given rest answer
+-- where a machine is ready, the words say that the code is run on it
+pub runs-on : (go : Bool) (ready : Ready) (code wanted : Code) (told : Bool) (given status : ℕ) (rest : List Act) (answer : ℕ)
+    → IsReadyIf go wanted (Some ready) → code ≡ wanted → given ≡ status → runs code (cell_count ready.machine) told given rest answer
     → runs_if go wanted status told rest answer
-runs-on true machine code wanted told given status rest answer has same is done =
-    subst (λ (n : ℕ). runs wanted n told status rest answer) has
-    (subst (λ (one : Code). runs one (cell_count machine) told status rest answer) same
-    (subst (λ (s : ℕ). runs code (cell_count machine) told s rest answer) is done))
-runs-on false machine code wanted told given status rest answer has same is done = cc
+runs-on true ready code wanted told given status rest answer is_ready same is done =
+    subst (λ (n : ℕ). runs wanted n told status rest answer) is_ready.cells_are
+    (subst (λ (one : Code). runs one (cell_count ready.machine) told status rest answer) same
+    (subst (λ (s : ℕ). runs code (cell_count ready.machine) told s rest answer) is done))
+runs-on false ready code wanted told given status rest answer is_ready same is done = cc

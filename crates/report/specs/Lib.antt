@@ -5,6 +5,7 @@ pub mod Steps
 pub mod Courses
 pub mod Pcom
 pub mod Pint
+pub mod Ready
 pub mod Prepared
 pub use Rattle.report_text.specs.Faults
 pub use Rattle.report_text.specs.Text

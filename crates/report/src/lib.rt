@@ -5,6 +5,7 @@ pub mod compile;
 pub mod pcom;
 pub mod pint;
 mod prepared;
+mod ready;
 mod running;
 mod telling;
 pub mod text;

@@ -1,16 +1,16 @@
-ghost use Rattle.std.specs.Prelude.{◌≡◌, ◌≤◌, MatchResult, map};
+ghost use Rattle.std.specs.Prelude.{◌≤◌, MatchResult, map};
 ghost use Rattle.pcode_assembler.specs.Contents.{Says};
 ghost use Rattle.report.specs.Courses.{Goes};
 ghost use Rattle.report.specs.Pint.{IsCodeRefusal, assembles, by_words, pint};
-ghost use Rattle.stack_machine.specs.Does.{cell_count};
+ghost use Rattle.report.specs.Ready.{IsReady};
 
+use crate::ready::Ready;
 use crate::telling::{cannot_read, refuse, run_code, untaken};
 use command_line::{PintWords, pint_words};
 use outside::Outside;
 use pcode_assembler::assembler::assemble;
 use pcode_assembler::code::Code;
 use report_text::fault::Fault;
-use stack_machine::machine::Machine;
 use std::alloc::Global;
 
 /// The program `pint` by the words of its command, the program's name first. Answers its status.
@@ -41,17 +41,17 @@ fn by_text<O: Outside>(alloc: Global, cells: u32, text: &[u8], outside: &mut O) 
     ensures { Goes (O.acts outside.old) (O.acts outside.new) result (assembles cells text.now) }
 {
     match assembled(alloc, cells, text) {
-        Ok((code, mut machine)) => run_code(alloc, &code, &mut machine, true, 0, outside),
+        Ok((code, mut ready)) => run_code(alloc, &code, &mut ready, true, 0, outside),
         Err(fault) => refuse(alloc, &fault, outside),
     }
 }
 
-// The code of a text, and a machine for it.
-fn assembled(alloc: Global, cells: u32, text: &[u8]) -> Result<(Code, Machine), Fault>
+// The code of a text, and what is made for its run.
+fn assembled(alloc: Global, cells: u32, text: &[u8]) -> Result<(Code, Ready), Fault>
     requires { (1 ≤ cells) × (cells ≤ 16777216) }
-    ensures { MatchResult result (λ made. Says text.now made.0 × (cell_count made.1 ≡ cells)) (IsCodeRefusal text.now) }
+    ensures { MatchResult result (λ made. Says text.now made.0 × IsReady made.0 cells made.1) (IsCodeRefusal text.now) }
 {
     let code = assemble(alloc, text)?;
-    let machine = Machine::new(alloc, cells)?;
-    Ok((code, machine))
+    let ready = Ready::for_code(alloc, &code, cells)?;
+    Ok((code, ready))
 }

@@ -1,19 +1,19 @@
-ghost use Rattle.std.specs.Prelude.{◌≡◌, ℕ, IfErr, IfOk, List, Option};
-ghost use Rattle.command_line.specs.declared.pcom.PcomWords.{PcomWords};
+ghost use Rattle.std.specs.Prelude.{◌≡◌, IfErr, IfOk};
 ghost use Rattle.pcode_assembler.specs.Contents.{spelling};
 ghost use Rattle.report.specs.Courses.{Goes, writes_if};
 ghost use Rattle.report.specs.Pcom.{code_of, report_status, reports, spelled, writes_code};
 ghost use Rattle.report.specs.Prepared.{IsPrepared, IsThereFor};
 ghost use Rattle.report.specs.Refusals.{IsRefusal, given};
+ghost use Rattle.report.specs.Whole.{IsCompiled};
 
 use crate::compile::{Compiled, compile};
+use crate::ready::Ready;
 use crate::telling::{cannot_write, run_code, write_to};
 use crate::text::lines;
 use command_line::PcomWords;
 use outside::Outside;
 use pcode_assembler::code::Code;
 use report_text::fault::Fault;
-use stack_machine::machine::Machine;
 use std::alloc::{AllocError, Global};
 use typed_tree::site::Site;
 
@@ -31,7 +31,7 @@ pub(crate) struct Prepared {
     /// The text of the code, empty where it isn't to be written.
     code: Vec<u8>,
     /// None where the code isn't to be run.
-    machine: Option<Machine>,
+    ready: Option<Ready>,
 }
 
 /// Compiles a source, with the text of a certificate or with one that is found, and makes all that takes memory.
@@ -44,15 +44,17 @@ pub(crate) fn prepare(
     source: &[u8],
     certificate: Option<&[u8]>,
 ) -> Result<Prepared, Fault>
-    ensures prepared { IfOk result (IsPrepared words.entry source.now (given certificate.entry)) }
+    ensures compiled { IfOk result (λ it. IsCompiled source.now (given certificate.entry) it.compiled) }
+    ensures prepared { IfOk result (IsPrepared words.entry) }
     ensures refused { IfErr result (IsRefusal source.now (given certificate.entry)) }
 {
     let compiled = compile(alloc, source, certificate)?;
     let report = lines(alloc, &compiled.verdict)?;
     let certificate = certificate_for(alloc, words.write_cert, &compiled)?;
-    let code = code_for(alloc, words.code, chosen(&compiled, words.keep_checks))?;
-    let machine = if words.go {
-        Some(Machine::new(alloc, CELLS)?)
+    let chosen = chosen(&compiled, words.keep_checks);
+    let code = code_for(alloc, words.code, chosen)?;
+    let ready = if words.go {
+        Some(Ready::for_code(alloc, chosen, CELLS)?)
     } else {
         None
     };
@@ -61,7 +63,7 @@ pub(crate) fn prepare(
         report,
         certificate,
         code,
-        machine,
+        ready,
     })
 }
 
@@ -109,8 +111,8 @@ impl Prepared {
         words: PcomWords<'_>,
         outside: &mut O,
     ) -> u8
-        ensures { (source : List ℕ) (text : Option (List ℕ)) → IsPrepared words.entry source text self
-            → Goes (O.acts outside.old) (O.acts outside.new) result (writes_if (given words.entry.write_cert)
+        requires { IsPrepared words self }
+        ensures { Goes (O.acts outside.old) (O.acts outside.new) result (writes_if (given words.entry.write_cert)
             (spelled self.compiled) (writes_code words.entry self.compiled)) }
     {
         match write_to(words.write_cert, &self.certificate, outside) {
@@ -121,35 +123,34 @@ impl Prepared {
 
     // The same behind the certificate.
     fn put_out_code<O: Outside>(self, alloc: Global, words: PcomWords<'_>, outside: &mut O) -> u8
-        ensures { (source : List ℕ) (text : Option (List ℕ)) → IsPrepared words.entry source text self
-            → Goes (O.acts outside.old) (O.acts outside.new) result (writes_code words.entry self.compiled) }
+        requires { IsPrepared words self }
+        ensures { Goes (O.acts outside.old) (O.acts outside.new) result (writes_code words.entry self.compiled) }
     {
         match write_to(words.code, &self.code, outside) {
-            Ok(()) => self.report_to(alloc, words.keep_checks, outside),
+            Ok(()) => self.report_to(alloc, words, outside),
             Err(path) => cannot_write(path, outside),
         }
     }
 
-    // Tells the report, and then runs the code, where there is a machine for it.
-    fn report_to<O: Outside>(self, alloc: Global, keep_checks: bool, outside: &mut O) -> u8
-        ensures { (words : PcomWords) (source : List ℕ) (text : Option (List ℕ))
-            → IsPrepared words source text self → keep_checks ≡ words.keep_checks
-            → Goes (O.acts outside.old) (O.acts outside.new) result (reports words self.compiled) }
+    // Tells the report, and then runs the code, where all is ready for it.
+    fn report_to<O: Outside>(self, alloc: Global, words: PcomWords<'_>, outside: &mut O) -> u8
+        requires { IsPrepared words self }
+        ensures { Goes (O.acts outside.old) (O.acts outside.new) result (reports words.entry self.compiled) }
     {
         let Prepared {
             compiled,
             report,
             certificate: _,
             code: _,
-            machine,
+            ready,
         } = self;
         let told = outside.tell(&[report.as_slice()]);
         let status = report_status(&compiled.verdict.open_sites);
-        match machine {
+        match ready {
             None => status,
-            Some(mut machine) => {
-                let code = chosen(&compiled, keep_checks);
-                run_code(alloc, code, &mut machine, told, status, outside)
+            Some(mut ready) => {
+                let code = chosen(&compiled, words.keep_checks);
+                run_code(alloc, code, &mut ready, told, status, outside)
             }
         }
     }

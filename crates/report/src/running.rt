@@ -4,10 +4,10 @@ ghost use Rattle.report.specs.Refusals.{IsRefusal, given};
 ghost use Rattle.report.specs.Whole.{IsRunOf};
 
 use crate::compile::compile;
+use crate::ready::Ready;
 use cert_checker::Verdict;
 use report_text::fault::Fault;
 use stack_machine::bytes::{Feed, Sink};
-use stack_machine::machine::Machine;
 use stack_machine::stop::Stop;
 use std::alloc::Global;
 
@@ -39,7 +39,9 @@ pub fn go<R: Feed, W: Sink>(
         × (reader.new ≡ reader.old) × (writer.new ≡ writer.old)) }
 {
     let compiled = compile(alloc, source, certificate)?;
-    let mut machine = Machine::new(alloc, cells)?;
-    let stop = machine.run(&compiled.stripped, reader, writer, budget);
+    let mut ready = Ready::for_code(alloc, &compiled.stripped, cells)?;
+    let stop = ready
+        .machine
+        .run_prepared(&compiled.stripped, &ready.steps, reader, writer, budget);
     Ok((compiled.verdict, stop))
 }

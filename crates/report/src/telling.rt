@@ -4,13 +4,14 @@ ghost use Rattle.report.specs.Courses.{unreadable_line, untaken, unwritable_line
 ghost use Rattle.report.specs.Refusals.{given};
 ghost use Rattle.report_text.specs.Text.{refusal_line, refusal_of, refusal_status};
 ghost use Rattle.stack_machine.specs.Does.{cell_count};
+ghost use Rattle.stack_machine.specs.Stands.{Stands};
 
+use crate::ready::Ready;
 use crate::text::{fault_text, stop_text};
 use command_line::WordsFault;
 use outside::Outside;
 use pcode_assembler::code::Code;
 use report_text::fault::Fault;
-use stack_machine::machine::Machine;
 use stack_machine::stop::Stop;
 use std::alloc::Global;
 
@@ -74,20 +75,21 @@ pub(crate) fn write_to<'a, O: Outside>(
     }
 }
 
-/// Runs a code, and tells how it stopped, where all that was told before was taken. The status is the stop's, but the
-/// report's where the run finished.
+/// Runs a code by what was made ready for it, and tells how it stopped, where all that was told before was taken. The
+/// status is the stop's, but the report's where the run finished.
 pub(crate) fn run_code<O: Outside>(
     alloc: Global,
     code: &Code,
-    machine: &mut Machine,
+    ready: &mut Ready,
     told: bool,
     report: u8,
     outside: &mut O,
 ) -> u8
+    requires { Stands code.now.instructions.items ready.old.steps }
     ensures { Goes (O.acts outside.old) (O.acts outside.new) result
-        (runs code.now (cell_count machine.old) told report) }
+        (runs code.now (cell_count ready.old.machine) told report) }
 {
-    let stop = outside.run(machine, code, u64::MAX);
+    let stop = outside.run(&mut ready.machine, code, &ready.steps, u64::MAX);
     tell_stop(alloc, &stop, told, report, outside)
 }
 

@@ -5,6 +5,7 @@ ghost use Rattle.std.specs.Prelude.{None};
 use clap::Error;
 use outside::Outside;
 use pcode_assembler::code::Code;
+use prepared_steps::steps::Prepared;
 use stack_machine::bytes::Counted;
 use stack_machine::machine::Machine;
 use stack_machine::stop::Stop;
@@ -85,11 +86,17 @@ impl Outside for Stage<'_> {
         true
     }
 
-    fn run(&mut self, machine: &mut Machine, code: &Code, budget: u64) -> Stop {
+    fn run(
+        &mut self,
+        machine: &mut Machine,
+        code: &Code,
+        prepared: &Prepared,
+        budget: u64,
+    ) -> Stop {
         self.note("run", "");
         let mut reader = Counted::new(b"".as_slice());
         let mut writer = Counted::new(mem::replace(&mut self.output, Vec::new(self.alloc)));
-        let stop = machine.run(code, &mut reader, &mut writer, budget);
+        let stop = machine.run_prepared(code, prepared, &mut reader, &mut writer, budget);
         self.output = writer.into_inner();
         stop
     }

@@ -1,12 +1,9 @@
 use Rattle.std.proofs.Common.{Ok, Err}
-use Rattle.report.specs.Refusals.{given}
 use Rattle.report.proofs.pcom.by_texts.Goals as goal
 
 pub returns-in-Ok : goal.returns-in-Ok
 returns-in-Ok g c =
-    let prepared = c.in-Ok.ensures.prepared in
-    let done = c.put_out.ensures c.args.source.now (given c.args.certificate) prepared in
-    (done.0, done.1, (Ok c.in-Ok.prepared.compiled, (prepared.compiled_so, done.2)))
+    let done = c.put_out.ensures in (done.0, done.1, (Ok c.in-Ok.prepared.compiled, (c.in-Ok.ensures.compiled, done.2)))
 
 pub returns-in-Err : goal.returns-in-Err
 returns-in-Err g c =

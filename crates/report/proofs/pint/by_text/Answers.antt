@@ -7,7 +7,7 @@ returns-in-Ok g c =
     let done = c.run_code.ensures in
     let code = c.in-Ok.code in
     let made = c.in-Ok.ensures in
-    (done.0, done.1, (Ok code, (made.0, subst (λ (n : ℕ). runs code n true 0 done.0 c.run_code.result) made.1 done.2)))
+    (done.0, done.1, (Ok code, (made.0, subst (λ (n : ℕ). runs code n true 0 done.0 c.run_code.result) made.1.cells_are done.2)))
 
 pub returns-in-Err : goal.returns-in-Err
 returns-in-Err g c =

@@ -9,7 +9,7 @@ returns g c =
     let of = λ (r : g.row.R.Denot) (w : g.row.W.Denot). streams (g.R.Feed.remaining r) (g.R.Feed.asked r) (g.R.Feed.failures r)
     (g.W.Sink.contents w) (g.W.Sink.offered w) (g.W.Sink.failures w) in
     let before = of c.args.reader.now c.args.writer.now in
-    let after = of c.run-stop.new.reader c.run-stop.new.writer in
+    let after = of c.run_prepared-stop.new.reader c.run_prepared-stop.new.writer in
     record {
       runs = record {
         compiled = compiled;
@@ -28,7 +28,7 @@ returns g c =
           };
         };
         verdict_is = refl;
-        ran = subst (λ (n : ℕ). IsRun compiled.stripped n c.args.budget c.run-stop.result before after) c.in_ok-machine.ensures
-            (record { ran = c.run-stop.ensures.ran; failed = c.run-stop.ensures.write_failed });
+        ran = subst (λ (n : ℕ). IsRun compiled.stripped n c.args.budget c.run_prepared-stop.result before after) c.in_ok-ready.ensures.cells_are
+            (record { ran = c.run_prepared-stop.ensures.ran; failed = c.run_prepared-stop.ensures.write_failed });
       };
     }

@@ -6,16 +6,15 @@ use Rattle.report.proofs.CourseLemmas.{unwritten, written}
 use Rattle.report.proofs.prepared.Prepared.put_out.Goals as goal
 
 pub returns-in-Ok : goal.returns-in-Ok
-returns-in-Ok g c source text prepared =
+returns-in-Ok g c =
     let compiled = c.args.self.compiled in
     let path = given c.args.words.write_cert in
     written path (spelled compiled) c.deref.result.now _ _ _ c.put_out_code.result (writes_code c.args.words compiled)
-    (subst (IsThereFor path (spelled compiled)) (sym c.deref.ensures.value) prepared.certificate) c.in-Ok.ensures
-    (c.put_out_code.ensures source text prepared)
+    (subst (IsThereFor path (spelled compiled)) (sym c.deref.ensures.value) c.requires.certificate) c.in-Ok.ensures c.put_out_code.ensures
 
 pub returns-in-Err : goal.returns-in-Err
-returns-in-Err g c source text prepared =
+returns-in-Err g c =
     let compiled = c.args.self.compiled in
     let path = given c.args.words.write_cert in
     unwritten path (spelled compiled) c.deref.result.now c.in-Err.path _ _ _ c.cannot_write.result (writes_code c.args.words compiled)
-    (subst (IsThereFor path (spelled compiled)) (sym c.deref.ensures.value) prepared.certificate) c.in-Err.ensures c.cannot_write.ensures
+    (subst (IsThereFor path (spelled compiled)) (sym c.deref.ensures.value) c.requires.certificate) c.in-Err.ensures c.cannot_write.ensures
