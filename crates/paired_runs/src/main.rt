@@ -43,8 +43,8 @@ fn main(rt: HostRuntime) -> io::Result<()> {
     let (mut runs, mut others) = (0u64, 0u64);
     for word in words {
         let budget = word.as_str().parse::<u64>().unwrap_or(u64::MAX);
-        let single = ran(rt.alloc(), &code, None, &input, cells, budget)?;
-        let hastened = ran(rt.alloc(), &code, Some(&prepared), &input, cells, budget)?;
+        let single = run_of(rt.alloc(), &code, None, &input, cells, budget)?;
+        let hastened = run_of(rt.alloc(), &code, Some(&prepared), &input, cells, budget)?;
         runs += 1;
         if !is_same(&single, &hastened) {
             others += 1;
@@ -55,7 +55,7 @@ fn main(rt: HostRuntime) -> io::Result<()> {
 }
 
 /// A run of the code, with the steps that are prepared for it or without.
-fn ran(
+fn run_of(
     alloc: Global,
     code: &Code,
     prepared: Option<&Prepared>,
