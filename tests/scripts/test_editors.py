@@ -14,7 +14,7 @@ from stand_in import make_stand_in, put, taken
 
 TOP = os.path.dirname(os.path.dirname(os.path.dirname(os.path.abspath(__file__))))
 EDITORS = os.path.join(TOP, "editors")
-PROGRAM = os.path.abspath(os.environ.get("PCOM", os.path.join(TOP, "crates", "pcom", "out", "pcom")))
+PROGRAM = os.environ["PCOM"]
 SECONDS = 60
 SOURCE, CERTIFICATE = "a b.pas", "a b.cert"
 TEXT = b"program p(output);\nvar x: integer;\nbegin\n\twrite(1: 1); write(x: 1)\nend.\n"

@@ -9,7 +9,7 @@ import tempfile
 import unittest
 
 TOP = os.path.dirname(os.path.dirname(os.path.dirname(os.path.abspath(__file__))))
-PROGRAM = os.path.abspath(os.environ.get("PCOM", os.path.join(TOP, "crates", "pcom", "out", "pcom")))
+PROGRAM = os.environ["PCOM"]
 SOURCE = "program p(output); begin writeln(1: 1) end.\n"
 OPEN = "program q(output); var i: integer; begin write(i) end.\n"
 TOLD = "1:48: possible error: undefined variable\n1:48: error: undefined variable\n"

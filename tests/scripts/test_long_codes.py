@@ -7,7 +7,7 @@ import tempfile
 import unittest
 
 TOP = os.path.dirname(os.path.dirname(os.path.dirname(os.path.abspath(__file__))))
-PROGRAM = os.path.abspath(os.environ.get("PINT", os.path.join(TOP, "crates", "pint", "out", "pint")))
+PROGRAM = os.environ["PINT"]
 LENGTH = 64 * 1024 * 1024
 SECONDS = 60
 # The most lines of a kind that a code has, but for labels.

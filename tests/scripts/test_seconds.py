@@ -10,7 +10,7 @@ from importlib.machinery import SourceFileLoader
 from importlib.util import module_from_spec, spec_from_loader
 
 TOP = os.path.dirname(os.path.dirname(os.path.dirname(os.path.abspath(__file__))))
-PROGRAM = os.path.abspath(os.environ.get("PCOM", os.path.join(TOP, "crates", "pcom", "out", "pcom")))
+PROGRAM = os.environ["PCOM"]
 SECONDS = 4
 
 

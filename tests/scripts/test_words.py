@@ -1,0 +1,33 @@
+"""What the scripts bin/pcom and bin/pint say without a program: the help, to which they add a part of their own, and
+the version."""
+
+import os
+import re
+import subprocess
+import unittest
+
+TOP = os.path.dirname(os.path.dirname(os.path.dirname(os.path.abspath(__file__))))
+OWN = "\nWhat the script bin/{} does beside:\n"
+
+
+def told(*words):
+    """What a command writes to standard output."""
+    return subprocess.run(words, stdout=subprocess.PIPE, text=True, check=True).stdout
+
+
+class Words(unittest.TestCase):
+    def test_the_help_is_the_program_s_with_a_part_more(self):
+        for name in ("pcom", "pint"):
+            ours, theirs = told(os.path.join(TOP, "bin", name), "--help"), told(os.environ[name.upper()], "--help")
+            self.assertEqual(ours[: len(theirs) + 1], f"{theirs}\n")
+            self.assertTrue(ours[len(theirs) :].startswith(OWN.format(name)))
+
+    def test_the_version_is_the_program_s_with_what_is_proved(self):
+        for name in ("pcom", "pint"):
+            ours, theirs = told(os.path.join(TOP, "bin", name), "--version"), told(os.environ[name.upper()], "--version")
+            shape = re.escape(theirs.rstrip("\n")) + r", (not )?proved(, commit [0-9a-f]+(-dirty)?)?(, rattle-kit-.+)?\n"
+            self.assertRegex(ours, f"^{shape}$")
+
+
+if __name__ == "__main__":
+    unittest.main()
