@@ -16,15 +16,19 @@ def told(*words):
 
 
 class Words(unittest.TestCase):
+    def both(self, name, word):
+        """What the script says for a word, and what the program does."""
+        return told(os.path.join(TOP, "bin", name), word), told(os.environ[name.upper()], word)
+
     def test_the_help_is_the_program_s_with_a_part_more(self):
         for name in ("pcom", "pint"):
-            ours, theirs = told(os.path.join(TOP, "bin", name), "--help"), told(os.environ[name.upper()], "--help")
+            ours, theirs = self.both(name, "--help")
             self.assertEqual(ours[: len(theirs) + 1], f"{theirs}\n")
             self.assertTrue(ours[len(theirs) :].startswith(OWN.format(name)))
 
     def test_the_version_is_the_program_s_with_what_is_proved(self):
         for name in ("pcom", "pint"):
-            ours, theirs = told(os.path.join(TOP, "bin", name), "--version"), told(os.environ[name.upper()], "--version")
+            ours, theirs = self.both(name, "--version")
             shape = re.escape(theirs.rstrip("\n")) + r", (not )?proved(, commit [0-9a-f]+(-dirty)?)?(, rattle-kit-.+)?\n"
             self.assertRegex(ours, f"^{shape}$")
 
