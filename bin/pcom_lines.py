@@ -15,7 +15,7 @@ TROUBLE = 3
 PLACED = re.compile(rb"(\d{1,18}):(\d{1,18}): (possible error:|error:|input:|refused|certificate refused) (.+)")
 CLAIMED = re.compile(rb"certificate:(\d{1,18}): refused (\S+)")
 PLAIN = re.compile(rb"(refused|certificate refused|machine fault) (\S+)")
-PATH = re.compile(rb"(cannot read|cannot write) .*")
+PATH = re.compile(rb"(cannot read|cannot write) (.*)")
 TROUBLES = (b"no memory",)
 STOPS = (b"store full", b"write failed", b"read failed", b"budget used up")
 
@@ -27,6 +27,8 @@ class Message(NamedTuple):
     line: int = 0
     column: int = 0
     is_of_certificate: bool = False
+    # The path that it names.
+    path: bytes = None
     # Whether it tells how a run ended; so all output comes before it.
     is_stop: bool = False
 
@@ -53,7 +55,7 @@ def message_of(line):
     if found:
         return Message(name_of(found[2]), is_stop=found[1] == b"machine fault")
     found = PATH.fullmatch(text)
-    return Message(name_of(found[1])) if found else None
+    return Message(name_of(found[1]), path=found[2]) if found else None
 
 
 def name_of(text):
@@ -90,7 +92,8 @@ def run_program(words, told):
     line of standard error `told` gives the bytes to write there."""
     try:
         output = subprocess.PIPE if is_one_stream() else None
-        ran = subprocess.Popen([program(), *words], stdout=output, stderr=subprocess.PIPE)
+        # A source may be a file that this process was given open, as a shell's <(..) is.
+        ran = subprocess.Popen([program(), *words], stdout=output, stderr=subprocess.PIPE, close_fds=False)
     except (OSError, ValueError) as error:
         Stream(ERRORS).put(f"cannot run {program()}: {error}\n".encode("utf-8", "replace"))
         return TROUBLE

@@ -132,7 +132,7 @@ class OverTheProgram(ExplainCase):
         put(self.folder, "a.pas", OPEN)
         self.assertEqual(self.explain("--write-cert", "none/a.cert", "--go", "a.pas"), 3)
         self.assertEqual(self.output, b"")
-        self.assert_told("cannot write none/a.cert <>", "cannot write")
+        self.assert_told("cannot write none/a.cert There is no such folder. <>", "cannot write")
 
     def test_good_program(self):
         words = ["--go", os.path.join(TOP, "examples", "sum.pas")]
@@ -143,8 +143,52 @@ class OverTheProgram(ExplainCase):
 
     def test_cannot_read(self):
         self.assertEqual(self.explain("nothing.pas"), 3)
-        self.assert_told("cannot read nothing.pas <>", "cannot read")
+        self.assert_told("cannot read nothing.pas There is no such file. <>", "cannot read")
         self.assertEqual(self.explain("--cert", "nothing.cert", "nothing.pas"), 3)
+        self.assertIn("There is no such file.", self.errors)
+        self.assertEqual(self.explain("."), 3)
+        self.assert_told("cannot read . This is a folder. <>", "cannot read")
+
+    def test_byte_order_mark(self):
+        put(self.folder, "a.pas", b"\xef\xbb\xbf" + OPEN)
+        self.assertEqual(self.explain("a.pas"), 2)
+        hint = "This is a byte order mark: save the file as UTF-8 without a byte order mark."
+        self.assert_told(f"1:1: refused L1 1 | ?program p(output); | ^ {hint} <>", "L1")
+        put(self.folder, "a.pas", b"program p; begin \xe9 end.\n")
+        self.assertEqual(self.explain("a.pas"), 2)
+        self.assert_told("1:18: refused L1 1 | program p; begin \ufffd end. | ^ <>", "L1")
+
+    def test_letters_of_two_bytes(self):
+        put(self.folder, "a.pas", "program p(output);\nbegin\n  { äöü } write(x: 1)\nend.\n".encode())
+        self.assertEqual(self.explain("a.pas"), 2)
+        self.assert_shown("3:20: refused S3\n    3 |   { äöü } write(x: 1)\n      |                 ^\n    ")
+
+    def test_binary_file(self):
+        self.assertEqual(self.explain(sys.executable), 2)
+        self.assert_told("1:1: refused L1 <>", "L1")
+        put(self.folder, "a.pas", b"program p;\tbegin\x0c end.\r\n")
+        self.assertEqual(self.explain("a.pas"), 2)
+        self.assert_shown("    1 | program p;      begin? end.?\n      |                      ^\n")
+
+    def test_source_from_a_pipe(self):
+        words = ["--go", os.path.join(TOP, "examples", "sum.pas")]
+        wanted = subprocess.run([PROGRAM, *words], stdout=subprocess.PIPE, timeout=SECONDS, check=True).stdout
+        command = 'exec "$@" --go <(cat "$SOURCE")'
+        ran = subprocess.run(
+            ["bash", "-c", command, "bash", *self.command([])],
+            env={**self.environment(), "SOURCE": words[1]},
+            stdin=subprocess.DEVNULL,
+            stdout=subprocess.PIPE,
+            stderr=subprocess.PIPE,
+            timeout=SECONDS,
+        )
+        self.assertEqual((ran.returncode, ran.stdout, ran.stderr), (0, wanted, b""))
+
+    def test_source_as_input(self):
+        put(self.folder, "a.pas", OPEN)
+        with open(os.path.join(self.folder, "a.pas"), "rb") as source:
+            self.assertEqual(self.explain("/dev/stdin", input=None, stdin=source), 1)
+        self.assert_told("4:21: possible error: undefined variable <>", "undefined variable")
 
     def test_wrong_words(self):
         for words in (["--stop", "x.pas"], ["x.pas", "x.code", "y.code"], ["--cert"], ["--go"]):
@@ -163,6 +207,35 @@ class OverTheProgram(ExplainCase):
             self.errors = self.output.decode()
             self.assert_told(f"{' '.join(words)} <>", name)
 
+    def test_list(self):
+        self.assertEqual(self.explain("--list"), 0)
+        self.assertEqual(self.errors, "")
+        parser = configparser.RawConfigParser()
+        parser.read(os.path.join(TOP, "docs", "explanations.ini"), encoding="utf-8")
+        names = [name for name in parser.sections() if "means" in parser[name]]
+        wanted = " ".join(f"{name}: {parser[name]['means']}" for name in names)
+        groups = [group.split("\n", 1) for group in self.output.decode().split("\n\n")]
+        self.assertEqual(" ".join(listed for _, listed in groups).split(), wanted.split())
+        self.assertEqual([heading.rsplit(None, 1)[-1] for heading, _ in groups[:3]], ["(L)", "(P)", "(S)"])
+        # All codes of a letter stand in one group.
+        for heading, listed in groups:
+            of_group = {line.split(":")[0].strip() for line in listed.split("\n")} & set(names)
+            for letter in {name[0] for name in of_group if name[1:].isdigit()}:
+                self.assertLessEqual({name for name in names if name[0] == letter and name[1:].isdigit()}, of_group)
+
+    def test_similar_names(self):
+        for name, similar in (
+            ("P4", "did you mean `P1`, `P2` or `P3`?"),
+            ("g11", "did you mean `G1`?"),
+            ("X10", "did you mean `K10`?"),
+            ("undefined varable", "did you mean `undefined variable`"),
+            ("store fll", "did you mean `store full`?"),
+            ("E11", "bin/explain --list lists them"),
+            ("something else", "bin/explain --list lists them"),
+        ):
+            self.assertEqual(self.explain(*name.split()), 3)
+            self.assertIn(similar, self.errors)
+
 
 class OverTheStandIn(ExplainCase):
     """The rest, with a program that stands in for pcom and sentences of its own."""
@@ -174,6 +247,7 @@ class OverTheStandIn(ExplainCase):
             os.makedirs(os.path.join(self.top, name))
         for name in ("explain", "pcom_lines.py"):
             shutil.copy(os.path.join(TOP, "bin", name), os.path.join(self.top, "bin", name))
+        shutil.copytree(os.path.join(TOP, "bin", "tools"), os.path.join(self.top, "bin", "tools"))
         put(os.path.join(self.top, "docs"), "explanations.ini", SENTENCES)
 
     def run_stand_in(self, errors=b"", source=b"abc\n", words=("a.pas",), given=None, **parts):
@@ -202,7 +276,8 @@ class OverTheStandIn(ExplainCase):
         self.assertEqual(self.output, output)
 
     def test_lines_handed_on(self):
-        errors = b"pcom: a line\n\xff\n8: refused\n1:x: error: index\nx1:1: error: index\nno end"
+        errors = b"pcom: not proved here (bin/prove proves it)\n"
+        errors += b"pcom: a line\n\xff\n8: refused\n1:x: error: index\nx1:1: error: index\nno end"
         with open(os.path.join(self.folder, "told"), "w+b") as told:
             self.assertEqual(self.run_stand_in(errors, given={"stderr": told}), 0)
         self.assertEqual(taken(self.folder, "told"), errors)
@@ -267,8 +342,15 @@ class OverTheStandIn(ExplainCase):
     def test_bytes(self):
         self.assert_marked(
             ("{ \u00e9 \u6f22\u5b57 e\u0301 } x".encode(), 19, "{ \u00e9 \u6f22\u5b57 e\u0301 } x", 13),
-            (b"{ \xff\x1b } x", 8, "{ \ufffd? } x", 7),
+            (b"{ \xff\x7f } x", 8, "{ \ufffd? } x", 7),
         )
+
+    def test_lines_of_no_text(self):
+        for byte in (b"\0", b"\x1b", b"\x1f", b"\x0b"):
+            self.assertEqual(self.run_stand_in(b"1:1: error: a fault\n", b"a" + byte + b"\nb\n"), 0)
+            self.assertEqual(self.errors, "1:1: error: a fault\n")
+        self.run_stand_in(b"2:1: error: a fault\n", b"a\x1b\nb\n")
+        self.assertEqual(self.errors, "2:1: error: a fault\n    2 | b\n      | ^\n")
 
     def test_bytes_in_ascii(self):
         self.encoding = "ascii"
@@ -283,6 +365,26 @@ class OverTheStandIn(ExplainCase):
             ("\u6f22".encode() * 5000 + b"b" * 37, 15001, ".. " + "\u6f22" * 31 + "b" * 37, 65),
             (b"a" * 5000, 5001, ".." + "a" * 100, 102),
         )
+
+    def test_paths(self):
+        os.mkdir(os.path.join(self.folder, "a folder"))
+        for text, said in (
+            ("cannot read a folder", "    This is a folder.\n"),
+            ("cannot read no file", "    There is no such file.\n"),
+            ("cannot read a.pas", ""),
+            ("cannot read -", ""),
+            ("cannot write a folder", "    This is a folder.\n"),
+            ("cannot write no/file", "    There is no such folder.\n"),
+            ("cannot write file", ""),
+        ):
+            self.run_stand_in(f"{text}\n".encode())
+            self.assertEqual(self.errors, f"{text}\n{said}")
+
+    def test_source_that_is_a_pipe_by_its_name(self):
+        # A file of this name isn't what pcom reads.
+        put(self.folder, "-", b"abc\n")
+        self.run_stand_in(b"1:1: error: a fault\n", words=("-",))
+        self.assertEqual(self.errors, "1:1: error: a fault\n")
 
     def test_file_that_is_read_once(self):
         os.mkfifo(os.path.join(self.folder, "pipe"))

@@ -72,6 +72,7 @@ fn fault_name(fault: MachineFault) -> &'static str
 }
 """
 
+HINT = "hint: "
 SENTENCE = re.compile(r"[A-Z`](?:[^.\n]|\.(?! |$))*\.")
 ITEM = re.compile(r"- \[?`([^`]+)`(?:\]\(#\w+\))?(?:, .*?)?: ")
 ROW = re.compile(r"\| `(?:machine fault )?(.+?)(?: PATH)?` \|")
@@ -100,12 +101,17 @@ def found_lines(text):
     return {line for shape in (LINE, PATH_LINE) for line in shape.findall(text)}
 
 
-def explanations():
+def sections():
     """The sections of the file, each with its keys, the white space of their values folded."""
     parser = configparser.RawConfigParser()
     with open(FILE, encoding="utf-8") as file:
         parser.read_file(file)
     return {name: {key: folded(text) for key, text in parser[name].items()} for name in parser.sections()}
+
+
+def explanations():
+    """Those of codes and names."""
+    return {name: keys for name, keys in sections().items() if not name.startswith(HINT)}
 
 
 def folded(text):
@@ -168,6 +174,14 @@ class Explanations(unittest.TestCase):
             self.assertEqual(sorted(keys), ["means", "mend"], name)
             for key, text in keys.items():
                 self.assertIsNotNone(SENTENCE.fullmatch(text), f"{name}: {key}: {text}")
+
+    def test_each_hint_is_a_sentence_for_a_name(self):
+        hints = {name: keys for name, keys in sections().items() if name.startswith(HINT)}
+        self.assertTrue(hints)
+        for name, keys in hints.items():
+            self.assertEqual(sorted(keys), ["at", "from", "says"], name)
+            self.assertIn(keys["at"], self.explained, name)
+            self.assertIsNotNone(SENTENCE.fullmatch(keys["says"]), f"{name}: {keys['says']}")
 
     def test_lines_keep_their_width(self):
         for path in (FILE, PAGE, CODE_PAGE):
