@@ -80,7 +80,8 @@ def main(words):
         return CUT_OFF
     if kind is None:
         return STATUS
-    print(kind, path_of(kind, names[0]))
+    # In one piece, since bin/test lets some write at once.
+    sys.stdout.write(f"{kind} {path_of(kind, names[0])}\n")
     return 0
 
 

@@ -7,6 +7,7 @@ import subprocess
 import unittest
 
 TOP = os.path.dirname(os.path.dirname(os.path.dirname(os.path.abspath(__file__))))
+BESIDE = r", (not )?proved(, commit [0-9a-f]+(-dirty)?)?(, rattle-kit-.+)?\n"
 OWN = "\nWhat the script bin/{} does beside:\n"
 
 
@@ -25,12 +26,12 @@ class Words(unittest.TestCase):
             ours, theirs = self.both(name, "--help")
             self.assertEqual(ours[: len(theirs) + 1], f"{theirs}\n")
             self.assertTrue(ours[len(theirs) :].startswith(OWN.format(name)))
+            self.assertTrue(name == "pint" or "\n  CODE is written" in ours)
 
     def test_the_version_is_the_program_s_with_what_is_proved(self):
         for name in ("pcom", "pint"):
             ours, theirs = self.both(name, "--version")
-            shape = re.escape(theirs.rstrip("\n")) + r", (not )?proved(, commit [0-9a-f]+(-dirty)?)?(, rattle-kit-.+)?\n"
-            self.assertRegex(ours, f"^{shape}$")
+            self.assertRegex(ours, f"^{re.escape(theirs.rstrip())}{BESIDE}$")
 
 
 if __name__ == "__main__":
