@@ -33,7 +33,7 @@ PROGRAMS = ("pcom", "pint")
 # Each command of the kit writes what it is asked for to the log. SLOW has seconds by crate. A crate is not proved, and
 # not tried, where its code has the word `wrong`. What is made of a program says by which way it was made, and runs.
 HEAD = '''#!{python}
-import json, os, sys, time
+import json, os, sys, tempfile, time
 def log(*words):
     with open({log!r}, "a") as file:
         file.write(" ".join(map(str, words)) + "\\n")
@@ -68,7 +68,7 @@ wait(name)
 if "wrong" in text:
     sys.exit("error: " + os.path.abspath("src/main.rt") + ":1: wrong")
 clang = os.path.dirname(os.path.dirname(os.path.abspath(__file__))) + "/toolchain/bin/clang"
-os.chdir(os.environ["WORK"])
+os.chdir(tempfile.mkdtemp(dir=os.environ["WORK"]))
 words = ["--sysroot=elsewhere", "-x", "ir", "module.bc", "-o", "module.o", "-fPIE", "-O0", "-fsanitize=address"]
 for module in "small", text + "\\n" + 100_000 * ".":
     put("module.bc", module)
