@@ -68,6 +68,11 @@ class Nothing(AtHand):
         self.assertEqual((ran.stderr, ran.returncode), (f"cannot read {self.folder}\n", 3))
         self.assertEqual(self.calls(), [])
 
+    def test_what_would_be_overwritten_is_told_without_a_build(self):
+        ran = self.ran("pcom", "a b.pas", "a b.pas")
+        self.assertEqual((ran.stderr, ran.returncode), ("pcom: a b.pas is the source, it isn't overwritten\n", 3))
+        self.assertEqual(self.calls(), [])
+
     def test_sources_that_are_wrong_are_told_with_their_place(self):
         self.edit("pcom", "wrong\n")
         ran = self.ran("pcom", "a b.pas")
