@@ -9,7 +9,7 @@ import time
 import unittest
 
 TOP = os.path.dirname(os.path.dirname(os.path.dirname(os.path.abspath(__file__))))
-SCRIPTS = ("pcom", "pint", "at_hand.py", "prove", "programs.py", "tried.py", "files.sh")
+SCRIPTS = ("pcom", "pint", "at_hand.py", "prove", "plan.py", "programs.py", "tried.py", "files.sh")
 CRATES = """# Crates for a test.
 low:
 left: low thiserror
