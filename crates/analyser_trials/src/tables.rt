@@ -11,18 +11,24 @@ use std::alloc::{AllocError, Global};
 use std::test::Fail;
 use test_words::rows::all_hold;
 use typed_tree::tree::{Tree, Variable, VariableKind};
-use types::TypeTable;
+use types::{TypeId, TypeTable};
+
+/// A variable of a program's own.
+fn variable(type_id: TypeId) -> Variable {
+    Variable {
+        block: 0,
+        type_id,
+        kind: VariableKind::Local,
+    }
+}
 
 /// A program without statements. Its variables 0 and 1 are integers, 2 is a Boolean.
 fn tree(alloc: Global) -> Result<Tree, AllocError> {
-    let mut variables = Vec::new(alloc);
-    for type_id in [TypeTable::INTEGER, TypeTable::INTEGER, TypeTable::BOOLEAN] {
-        variables.push(Variable {
-            block: 0,
-            type_id,
-            kind: VariableKind::Local,
-        })?;
-    }
+    let variables = vec![in alloc;
+        variable(TypeTable::INTEGER),
+        variable(TypeTable::INTEGER),
+        variable(TypeTable::BOOLEAN),
+    ]?;
     Ok(Tree {
         blocks: Vec::new(alloc),
         bodies: Vec::new(alloc),
@@ -41,173 +47,253 @@ fn path(alloc: Global, root: u32) -> Path {
     }
 }
 
-fn range_of(alloc: Global, root: u32) -> Fact {
-    Fact::Range {
-        path: path(alloc, root),
-        range: Interval::EMPTY,
-    }
-}
-
 fn defined(alloc: Global, root: u32) -> Fact {
     Fact::Defined {
         path: path(alloc, root),
     }
 }
 
-/// The range or the number of the first of some facts.
-fn first_told(alloc: Global, facts: &[Fact]) -> Result<String, AllocError> {
-    match facts.first() {
-        Some(Fact::Range { range, .. }) => {
-            format!(in alloc; "{}..{}", range.first(), range.last())
-        }
-        Some(Fact::Order { number, .. }) => format!(in alloc; "{number}"),
-        _ => String::from_str(alloc, "fallen"),
-    }
+/// What a place claims: of a variable that it has a value, or its range; or how variable 0 stands to variable 1.
+#[derive(Clone, Copy)]
+enum Claim {
+    Value(u32),
+    Range(u32),
+    Order,
 }
 
-/// A variable, the steps of its ladder, whether moves count, and its values in the states that come.
-type Row = (u32, &'static [i64], bool, &'static [i32]);
-
-static RANGES: [(Row, &str); 17] = [
-    // The first state; three moves are free, and two that don't count.
-    ((0, &[], true, &[5]), "5..5"),
-    ((0, &[10], true, &[0, 1, 2, 3]), "0..3"),
-    ((0, &[10], false, &[0, 1, 2, 3, 4, 5]), "0..5"),
-    // Then an end goes to the next step, which may be where it stands.
-    ((0, &[100, 10], true, &[0, 1, 2, 3, 4]), "0..10"),
-    ((0, &[4, 10], true, &[0, 1, 2, 3, 4]), "0..4"),
-    ((0, &[100, 10], true, &[0, 1, 2, 3, 4, 10]), "0..10"),
-    ((0, &[100, 10], true, &[0, 1, 2, 3, 4, 11]), "0..100"),
-    ((0, &[-9, 0], true, &[0, -1, -2, -3, -4]), "-9..0"),
-    // Each end has moves of its own.
-    ((0, &[9, -9], true, &[0, 1, -1, 2, -2, 3, -3]), "-3..3"),
-    ((0, &[9, -9], true, &[0, 1, -1, 2, -2, 3, -3, 4]), "-3..9"),
-    // Where no step follows, and behind eight steps, it goes to the type's end.
-    ((0, &[10], true, &[0, 1, 2, 3, 11]), "0..2147483647"),
-    (
-        (
-            0,
-            &[4, 5, 6, 7, 8, 9, 10, 11],
-            true,
-            &[0, 1, 2, 3, 4, 5, 6, 7, 8, 9, 10, 11],
-        ),
-        "0..11",
-    ),
-    (
-        (
-            0,
-            &[4, 5, 6, 7, 8, 9, 10, 11, 12],
-            true,
-            &[0, 1, 2, 3, 4, 5, 6, 7, 8, 9, 10, 11, 12],
-        ),
-        "0..2147483647",
-    ),
-    // A range falls that has all values of its type.
-    (
-        (0, &[], true, &[0, 1, 2, 3, 4, -1, -2, -3]),
-        "-3..2147483647",
-    ),
-    ((0, &[], true, &[0, 1, 2, 3, 4, -1, -2, -3, -4]), "fallen"),
-    ((2, &[], true, &[1]), "1..1"),
-    ((2, &[], true, &[1, 0]), "fallen"),
-];
-
-fn range_told(alloc: Global, row: &Row) -> Result<String, AllocError> {
-    let (root, steps, counts, values) = *row;
-    let tree = tree(alloc)?;
-    let rows = Rows::of(alloc, &tree)?;
-    let mut ladders = Ladders::new(alloc, rows.count())?;
-    for step in steps {
-        ladders.add(root as usize, *step);
-    }
-    ladders.finish()?;
-    let mut facts = vec![in alloc; range_of(alloc, root)]?;
-    let mut table = Table::new(alloc, facts.len())?;
-    let mut state = State::of_types(alloc, &rows);
-    for value in values {
-        state.set_range(root as usize, Interval::between(*value, *value));
-        table.arrive(&mut facts, &Coming::here(&state), &rows, &ladders, counts);
-    }
-    first_told(alloc, &facts)
-}
-
-#[test]
-fn widens_ranges(rt: HostRuntime) -> Result<(), Fail> {
-    all_hold(rt.alloc(), &RANGES, range_told)
-}
-
-/// The numbers by which variable 0 is at most variable 1 in the states that come, and what an order says then.
-static ORDERS: [(&[i64], &str); 5] = [
-    (&[-1, -2], "-1"),
-    (&[-1, 0], "0"),
-    (&[1, -1], "1"),
-    (&[-1, 0, 1], "1"),
-    (&[0, 2], "fallen"),
-];
-
-fn order_told(alloc: Global, numbers: &&'static [i64]) -> Result<String, AllocError> {
-    let tree = tree(alloc)?;
-    let rows = Rows::of(alloc, &tree)?;
-    let ladders = Ladders::new(alloc, 0)?;
-    let mut facts = vec![in alloc;
-        Fact::Order {
+fn fact_of(alloc: Global, claim: Claim) -> Fact {
+    match claim {
+        Claim::Value(root) => defined(alloc, root),
+        Claim::Range(root) => Fact::Range {
+            path: path(alloc, root),
+            range: Interval::EMPTY,
+        },
+        Claim::Order => Fact::Order {
             root: 0,
             other: 1,
-            number: -1
+            number: -1,
         },
-    ]?;
-    let mut table = Table::new(alloc, facts.len())?;
-    for number in *numbers {
-        let mut state = State::of_types(alloc, &rows);
-        state.define(0);
-        state.define(1);
-        state.order(Order::new(0, 1, *number));
-        table.arrive(&mut facts, &Coming::here(&state), &rows, &ladders, true);
     }
-    first_told(alloc, &facts)
 }
 
-#[test]
-fn raises_orders(rt: HostRuntime) -> Result<(), Fail> {
-    all_hold(rt.alloc(), &ORDERS, order_told)
+fn facts_of(alloc: Global, claims: &[Claim]) -> Result<Vec<Fact>, AllocError> {
+    let mut facts = Vec::with_capacity(alloc, claims.len())?;
+    for claim in claims {
+        facts.push(fact_of(alloc, *claim))?;
+    }
+    Ok(facts)
 }
 
-#[test]
-fn drops_claims_and_tells_moves(rt: HostRuntime) -> Result<(), Fail> {
-    let alloc = rt.alloc();
+/// What a fact says, or the variable that has a value.
+fn fact_told(alloc: Global, fact: &Fact) -> Result<String, AllocError> {
+    match fact {
+        Fact::Range { range, .. } => format!(in alloc; " {}..{}", range.first(), range.last()),
+        Fact::Order { number, .. } => format!(in alloc; " {number}"),
+        Fact::Defined { path } => format!(in alloc; " v{}", path.root),
+        _ => String::from_str(alloc, " another"),
+    }
+}
+
+/// What happens at a place.
+#[derive(Clone, Copy)]
+enum Event {
+    /// The state comes with each of these values of a variable in turn.
+    Values(u32, &'static [i32]),
+    /// The same, where moves don't count.
+    Uncounted(u32, &'static [i32]),
+    /// States come in which variable 0 is at most variable 1 and each of these numbers in turn.
+    AtMost(&'static [i64]),
+    /// The state has a value of a variable from here on, and a range of it.
+    Between(u32, i32, i32),
+    /// The state comes, which is told by a sign: whether it moved a fact.
+    Comes,
+    /// The state is collected.
+    Collects,
+    /// Facts narrow to what was collected, which is told by a sign too.
+    Narrows,
+}
+
+use Claim::{Range, Value};
+use Event::*;
+
+/// What a place claims, the steps of the ladder of variable 0, and what happens there.
+type Row = (&'static [Claim], &'static [i64], &'static [Event]);
+
+/// The ladders of so many rows.
+fn ladders_of(alloc: Global, rows: usize, steps: &[i64]) -> Result<Ladders, AllocError> {
+    let mut ladders = Ladders::new(alloc, rows)?;
+    for step in steps {
+        ladders.add(0, *step);
+    }
+    ladders.finish()?;
+    Ok(ladders)
+}
+
+/// Signs of what moved, and the facts that are left.
+fn row_told(alloc: Global, row: &Row) -> Result<String, AllocError> {
+    let (claims, steps, events) = *row;
     let tree = tree(alloc)?;
     let rows = Rows::of(alloc, &tree)?;
-    let ladders = Ladders::new(alloc, 0)?;
-    let mut facts = vec![in alloc; defined(alloc, 0), defined(alloc, 1), range_of(alloc, 1)]?;
+    let ladders = ladders_of(alloc, rows.count(), steps)?;
+    let mut facts = facts_of(alloc, claims)?;
     let mut table = Table::new(alloc, facts.len())?;
     let mut state = State::of_types(alloc, &rows);
-    state.define(1);
-    state.set_range(1, Interval::between(3, 4));
-    assert!(rt; table.arrive(&mut facts, &Coming::here(&state), &rows, &ladders, true));
-    assert!(rt; !table.arrive(&mut facts, &Coming::here(&state), &rows, &ladders, true));
-    assert_eq!(rt; facts.len(), 2);
-    assert_eq!(rt; first_told(alloc, &facts)?.as_str(), "3..4");
-    Ok(())
+    let mut told = String::new(alloc);
+    for event in events {
+        match *event {
+            Values(root, values) | Uncounted(root, values) => {
+                let counts = matches!(*event, Values(..));
+                for value in values {
+                    state.set_range(root as usize, Interval::between(*value, *value));
+                    table.arrive(&mut facts, &Coming::here(&state), &rows, &ladders, counts);
+                }
+            }
+            AtMost(numbers) => {
+                for number in numbers {
+                    let mut other = State::of_types(alloc, &rows);
+                    other.define(0);
+                    other.define(1);
+                    other.order(Order::new(0, 1, *number));
+                    table.arrive(&mut facts, &Coming::here(&other), &rows, &ladders, true);
+                }
+            }
+            Between(root, first, last) => {
+                state.define(root as usize);
+                state.set_range(root as usize, Interval::between(first, last));
+            }
+            Comes => {
+                let moved = table.arrive(&mut facts, &Coming::here(&state), &rows, &ladders, true);
+                told.push(if moved { '+' } else { '-' })?;
+            }
+            Collects => table.collect(&facts, &Coming::here(&state)),
+            Narrows => told.push(if table.narrow(&mut facts) { '+' } else { '-' })?,
+        }
+    }
+    for fact in &facts {
+        told.push_str(fact_told(alloc, fact)?.as_str())?;
+    }
+    Ok(told)
 }
 
+/// A range falls that has all values of its type.
+static PLACES: [(Row, &str); 24] = [
+    // The first state; three moves are free, and two that don't count.
+    ((&[Range(0)], &[], &[Values(0, &[5])]), " 5..5"),
+    ((&[Range(0)], &[10], &[Values(0, &[0, 1, 2, 3])]), " 0..3"),
+    (
+        (&[Range(0)], &[10], &[Uncounted(0, &[0, 1, 2, 3, 4, 5])]),
+        " 0..5",
+    ),
+    // Then an end goes to the next step, which may be where it stands.
+    (
+        (&[Range(0)], &[100, 10], &[Values(0, &[0, 1, 2, 3, 4])]),
+        " 0..10",
+    ),
+    (
+        (&[Range(0)], &[4, 10], &[Values(0, &[0, 1, 2, 3, 4])]),
+        " 0..4",
+    ),
+    (
+        (&[Range(0)], &[100, 10], &[Values(0, &[0, 1, 2, 3, 4, 10])]),
+        " 0..10",
+    ),
+    (
+        (&[Range(0)], &[100, 10], &[Values(0, &[0, 1, 2, 3, 4, 11])]),
+        " 0..100",
+    ),
+    (
+        (&[Range(0)], &[-9, 0], &[Values(0, &[0, -1, -2, -3, -4])]),
+        " -9..0",
+    ),
+    // Each end has moves of its own.
+    (
+        (
+            &[Range(0)],
+            &[9, -9],
+            &[Values(0, &[0, 1, -1, 2, -2, 3, -3])],
+        ),
+        " -3..3",
+    ),
+    (
+        (
+            &[Range(0)],
+            &[9, -9],
+            &[Values(0, &[0, 1, -1, 2, -2, 3, -3, 4])],
+        ),
+        " -3..9",
+    ),
+    // Where no step follows, and behind eight steps, it goes to the type's end.
+    (
+        (&[Range(0)], &[10], &[Values(0, &[0, 1, 2, 3, 11])]),
+        " 0..2147483647",
+    ),
+    (
+        (
+            &[Range(0)],
+            &[4, 5, 6, 7, 8, 9, 10, 11],
+            &[Values(0, &[0, 1, 2, 3, 4, 5, 6, 7, 8, 9, 10, 11])],
+        ),
+        " 0..11",
+    ),
+    (
+        (
+            &[Range(0)],
+            &[4, 5, 6, 7, 8, 9, 10, 11, 12],
+            &[Values(0, &[0, 1, 2, 3, 4, 5, 6, 7, 8, 9, 10, 11, 12])],
+        ),
+        " 0..2147483647",
+    ),
+    (
+        (&[Range(0)], &[], &[Values(0, &[0, 1, 2, 3, 4, -1, -2, -3])]),
+        " -3..2147483647",
+    ),
+    (
+        (
+            &[Range(0)],
+            &[],
+            &[Values(0, &[0, 1, 2, 3, 4, -1, -2, -3, -4])],
+        ),
+        "",
+    ),
+    ((&[Range(2)], &[], &[Values(2, &[1])]), " 1..1"),
+    ((&[Range(2)], &[], &[Values(2, &[1, 0])]), ""),
+    // The number of an order grows, but not far.
+    ((&[Claim::Order], &[], &[AtMost(&[-1, -2])]), " -1"),
+    ((&[Claim::Order], &[], &[AtMost(&[-1, 0])]), " 0"),
+    ((&[Claim::Order], &[], &[AtMost(&[1, -1])]), " 1"),
+    ((&[Claim::Order], &[], &[AtMost(&[-1, 0, 1])]), " 1"),
+    ((&[Claim::Order], &[], &[AtMost(&[0, 2])]), ""),
+    // What a state doesn't give falls, and the same state moves nothing.
+    (
+        (
+            &[Value(0), Value(1), Range(1)],
+            &[],
+            &[Between(1, 3, 4), Comes, Comes],
+        ),
+        "+- 3..4 v1",
+    ),
+    (
+        (
+            &[Range(0)],
+            &[],
+            &[
+                Between(0, 0, 100),
+                Comes,
+                Between(0, 2, 101),
+                Collects,
+                Between(0, 7, 101),
+                Collects,
+                Narrows,
+                Narrows,
+            ],
+        ),
+        "++- 2..100",
+    ),
+];
+
 #[test]
-fn narrows_to_what_was_collected(rt: HostRuntime) -> Result<(), Fail> {
-    let alloc = rt.alloc();
-    let tree = tree(alloc)?;
-    let rows = Rows::of(alloc, &tree)?;
-    let ladders = Ladders::new(alloc, 0)?;
-    let mut facts = vec![in alloc; range_of(alloc, 0)]?;
-    let mut table = Table::new(alloc, facts.len())?;
-    let mut state = State::of_types(alloc, &rows);
-    state.set_range(0, Interval::between(0, 100));
-    table.arrive(&mut facts, &Coming::here(&state), &rows, &ladders, true);
-    for number in [2, 7] {
-        state.set_range(0, Interval::between(number, 101));
-        table.collect(&facts, &Coming::here(&state));
-    }
-    assert!(rt; table.narrow(&mut facts) && !table.narrow(&mut facts));
-    assert_eq!(rt; first_told(alloc, &facts)?.as_str(), "2..100");
-    Ok(())
+fn facts_move_as_states_come(rt: HostRuntime) -> Result<(), Fail> {
+    all_hold(rt.alloc(), &PLACES, row_told)
 }
 
 #[test]

@@ -1,10 +1,14 @@
+use crate::sources::resolved;
 use certificate::writer::read_again;
-use certificate::{Certificate, Version, read, write};
+use certificate::{read, write};
+use plain_certificate::widest;
 use std::alloc::Global;
 use std::test::Fail;
+use test_words::rows::all_hold;
 
 /// The texts of certificates: each kind of line, and of path, bound and number, stands in one of them.
-const TEXTS: [&str; 4] = [
+const TEXTS: [&str; 5] = [
+    "pcert 1\n",
     "pcert 1\nproc 0\nloop 0\nchange v0\nfact defined v0 2 v1-1\nloop 1\nchange v0\nchange v2\nfact defined v0\n\
      loop 2\nchange v0\nchange v2\nfact range v2 4 200\nfact defined v0\n",
     "pcert 1\nproc 1\nalias v0 v3\nalias v1 v3\nalias v1 v4\nalias v2 v4\nchange v3\nchange v4\nentry defined v3\n\
@@ -15,26 +19,41 @@ const TEXTS: [&str; 4] = [
      loop 0\nchange v0\n",
 ];
 
+/// What is written of what is read of what is written of a certificate that was read.
+fn again_told(alloc: Global, text: &&str) -> Result<String, Fail> {
+    let certificate = read(alloc, text.as_bytes())?;
+    let again = read_again(alloc, &certificate)?;
+    Ok(String::from_utf8(write(alloc, &again)?)?)
+}
+
 #[test]
 fn writes_what_was_read(rt: HostRuntime) -> Result<(), Fail> {
     for text in TEXTS {
-        let certificate = read(rt.alloc(), text.as_bytes())?;
-        let written = write(rt.alloc(), &certificate)?;
-        assert_eq!(rt; written.as_slice(), text.as_bytes());
-        let again = read_again(rt.alloc(), &certificate)?;
-        let written_again = write(rt.alloc(), &again)?;
-        assert_eq!(rt; written_again.as_slice(), text.as_bytes());
+        all_hold(rt.alloc(), &[(text, text)], again_told)?;
     }
     Ok(())
 }
 
+/// The widest certificate of a program.
+fn widest_told(alloc: Global, source: &&str) -> Result<String, Fail> {
+    let tree = resolved(alloc, source)?;
+    let certificate = widest(alloc, &tree)?;
+    Ok(String::from_utf8(write(alloc, &certificate)?)?)
+}
+
+/// A program with a variable, and a procedure with a variable parameter, a value parameter and a variable; each of them
+/// has a loop. Another procedure has nothing of its own, and a program has nothing at all.
+static WIDEST: [(&str, &str); 2] = [
+    (
+        "program p; var a: integer; procedure q(var b: integer; c: integer); var d: integer;
+        begin while false do end; procedure r; begin end; begin while false do end.",
+        "pcert 1\nproc 0\nloop 1\nchange v0\nproc 1\nalias v0 v1\nchange v0\nchange v1\nchange v2\nloop 0\nchange v0\n\
+         change v1\nchange v2\nchange v3\nproc 2\nchange v0\n",
+    ),
+    ("program p; begin end.", "pcert 1\n"),
+];
+
 #[test]
-fn writes_an_empty_certificate(rt: HostRuntime) -> Result<(), Fail> {
-    let certificate = Certificate {
-        version: Version::One,
-        sections: Vec::new(rt.alloc()),
-    };
-    let written = write(rt.alloc(), &certificate)?;
-    assert_eq!(rt; written.as_slice(), b"pcert 1\n".as_slice());
-    Ok(())
+fn lists_all_in_ascending_order(rt: HostRuntime) -> Result<(), Fail> {
+    all_hold(rt.alloc(), &WIDEST, widest_told)
 }

@@ -16,6 +16,20 @@ const LOOP: &str =
 /// `7` in a width of 3, and a line end.
 const LINE: &str = "ent 0 2; ldc 7; ldc 3; wri; wln; stp";
 
+/// `x := 1; y := x + 2; x := y`, where the sum has all checks and the last value is one from 0 to 9.
+const CHECKED: &str =
+    "site 1 1 1; ent 2 4; ldc 1; str 0 4; lod 0 4; ldc 2; cka 0; adi; chk 0 -2147483647 2147483647; str 0 5; \
+    lod 0 5; chk 0 0 9; str 0 4; stp";
+
+/// `i := 1; i := a[i + 1]`.
+const INDEXED: &str =
+    "ent 5 4; ldc 1; str 0 8; lda 0 4; lod 0 8; ldc 1; adi; ixa 0 1; ind 0; str 0 8; stp";
+
+/// `for i := 1 to 3 do`, whose variable is in a cell of its own.
+const ROUND: &str =
+    "ent 3 4; ldc 1; str 0 4; ldc 3; str 0 5; label 1; lod 0 4; str 0 6; lod 0 4; lod 0 5; neq; fjp 2; \
+    lod 0 4; ldc 1; adi; str 0 4; ujp 1; label 2; stp";
+
 /// Whether a step that does something begins at a place.
 fn begins(prepared: &Prepared, place: usize) -> bool {
     for (step, origin) in prepared.steps.iter().zip(&prepared.origins) {
@@ -40,7 +54,14 @@ fn row_told(alloc: Global, lines: &&str) -> Result<String, Fail> {
     marks(alloc, &assembled(alloc, lines)?)
 }
 
-static ROWS: [(&str, &str); 2] = [(LOOP, ".s.s.s....."), (LINE, ".ss...")];
+static ROWS: [(&str, &str); 5] = [
+    (LOOP, ".s.s.s....."),
+    (LINE, ".ss..."),
+    // A check is part of the step of its value.
+    (CHECKED, ".s.s.....s..."),
+    (INDEXED, ".s.s......."),
+    (ROUND, ".s.s.s.s........."),
+];
 
 #[test]
 fn instructions_have_steps(rt: HostRuntime) -> Result<(), Fail> {

@@ -116,7 +116,7 @@ fn generated_programs_agree_and_err_at_open_sites_alone(rt: HostRuntime) -> Resu
         let source = program(alloc, &mut numbers)?;
         let claims = certificate(alloc, &mut numbers, &source)?;
         let input = input(alloc, &mut numbers)?;
-        count(alloc, &source, claims.as_bytes(), &input, &mut counts)?;
+        count(alloc, &source, &claims, &input, &mut counts)?;
     }
     // Each comes often.
     let Counts {

@@ -10,15 +10,18 @@ use std::io::ErrorKind;
 use std::test::Fail;
 use test_words::rows::all_hold;
 
-// A source that copies its input line by line, and its certificate.
-const COPY: (&str, &str) = (
+// A source and its certificate.
+type Program = (&'static str, &'static str);
+
+// One that copies its input line by line.
+const COPY: Program = (
     "program p(input, output); var c: char; begin while not eof do begin if eoln then begin readln; writeln end
     else begin read(c); write(c) end end end.",
     "pcert 1\nproc 0\nloop 0\nchange v0\n",
 );
 
 // One that reads so many numbers as the first one says, and writes them.
-const NUMBERS: (&str, &str) = (
+const NUMBERS: Program = (
     "program p(input, output); var n: 1..100; i: integer; a: array [1..100] of integer;
     begin read(n); for i := 1 to n do read(a[i]); for i := 1 to n do write(a[i]:1, '.') end.",
     "pcert 1\nproc 0\nloop 0\nchange v2\nfact defined v2 1 v1-1\n",
@@ -47,9 +50,8 @@ impl io::Read for Cut<'_> {
     }
 }
 
-// What a source with a certificate writes, and behind that the line and the status of its stop; and how often the
-// reader was called.
-fn run_over(alloc: Global, program: (&str, &str), reader: Cut) -> Result<(String, u32), Fault> {
+// What a program writes, and behind that the line and the status of its stop; and how often the reader was called.
+fn run_over(alloc: Global, program: Program, reader: Cut) -> Result<(String, u32), Fault> {
     let (source, claims) = program;
     let mut reader = Counted::new(reader);
     let mut writer = Counted::new(Vec::new(alloc));
@@ -67,119 +69,75 @@ fn run_over(alloc: Global, program: (&str, &str), reader: Cut) -> Result<(String
     Ok((shown, reader.inner().calls))
 }
 
-fn told_over(alloc: Global, program: (&str, &str), reader: Cut) -> Result<String, Fault> {
+// A program, its input, the length of the pieces and the call at which the reader fails, 0 for none.
+type Row = (Program, &'static str, usize, u32);
+
+fn row_told(alloc: Global, row: &Row) -> Result<String, Fault> {
+    let (program, input, length, failing) = *row;
+    let reader = Cut {
+        rest: input.as_bytes(),
+        length,
+        failing,
+        calls: 0,
+    };
     let (told, _) = run_over(alloc, program, reader)?;
     Ok(told)
 }
 
-// Whether a reader that cuts its bytes into pieces of 1 to 10 lets a program write and stop so.
-fn is_told_in_pieces(
-    alloc: Global,
-    program: (&str, &str),
-    input: &str,
-    wanted: &str,
-) -> Result<bool, Fault> {
-    for length in 1..11usize {
-        let reader = Cut {
-            rest: input.as_bytes(),
-            length,
-            failing: 0,
-            calls: 0,
-        };
-        if told_over(alloc, program, reader)?.as_str() != wanted {
-            return Ok(false);
-        }
-    }
-    Ok(true)
-}
+// Programs, their inputs, and what they write and how they stop.
+static INPUTS: [(Program, &str, &str); 10] = [
+    (COPY, "", "||0"),
+    (COPY, "ab\n\nc", "ab\n\nc\n||0"),
+    (COPY, "ab\n\nc\n", "ab\n\nc\n||0"),
+    (COPY, "abc\u{e9}d", "abc|2:21: input: not a character\n|5"),
+    (NUMBERS, "2 -12345 +67890", "-12345.67890.||0"),
+    (NUMBERS, "3\n\n 0000000000001 2\n\n\n3x", "1.2.3.||0"),
+    (NUMBERS, "3 1 2 ", "|2:44: input: end of input\n|5"),
+    (NUMBERS, "3 1 2 -", "|2:44: input: not a number\n|5"),
+    (
+        NUMBERS,
+        "1 2147483648",
+        "|2:44: input: number too large\n|5",
+    ),
+    (NUMBERS, "101", "|2:16: input: value outside the type\n|5"),
+];
 
 #[test]
 fn pieces_of_every_length_are_one_input(rt: HostRuntime) -> Result<(), Fail> {
-    let alloc = rt.alloc();
-    assert!(rt; is_told_in_pieces(alloc, COPY, "", "||0")?);
-    assert!(rt; is_told_in_pieces(alloc, COPY, "ab\n\nc", "ab\n\nc\n||0")?);
-    assert!(rt; is_told_in_pieces(alloc, COPY, "ab\n\nc\n", "ab\n\nc\n||0")?);
-    assert!(rt;
-        is_told_in_pieces(
-            alloc,
-            COPY,
-            "abc\u{e9}d",
-            "abc|2:21: input: not a character\n|5"
-        )?
-    );
-    assert!(rt; is_told_in_pieces(alloc, NUMBERS, "2 -12345 +67890", "-12345.67890.||0")?);
-    assert!(rt; is_told_in_pieces(alloc, NUMBERS, "3\n\n 0000000000001 2\n\n\n3x", "1.2.3.||0")?);
-    assert!(rt; is_told_in_pieces(alloc, NUMBERS, "3 1 2 ", "|2:44: input: end of input\n|5")?);
-    assert!(rt; is_told_in_pieces(alloc, NUMBERS, "3 1 2 -", "|2:44: input: not a number\n|5")?);
-    assert!(rt;
-        is_told_in_pieces(
-            alloc,
-            NUMBERS,
-            "1 2147483648",
-            "|2:44: input: number too large\n|5"
-        )?
-    );
-    assert!(rt;
-        is_told_in_pieces(
-            alloc,
-            NUMBERS,
-            "101",
-            "|2:16: input: value outside the type\n|5"
-        )?
-    );
+    for (program, input, wanted) in &INPUTS {
+        for length in 1..11usize {
+            all_hold(
+                rt.alloc(),
+                &[((*program, *input, length, 0), *wanted)],
+                row_told,
+            )?;
+        }
+    }
     Ok(())
 }
 
-// The call at which a reader of single bytes fails, and what the copying program writes of ab, two line ends and c: all
-// that was given before.
-static FAILING_COPIES: [(u32, &str); 7] = [
-    (1, "|read failed\n|3"),
-    (2, "a|read failed\n|3"),
-    (3, "ab|read failed\n|3"),
-    (4, "ab\n|read failed\n|3"),
-    (5, "ab\n\n|read failed\n|3"),
-    (6, "ab\n\nc|read failed\n|3"),
-    (0, "ab\n\nc\n||0"),
+// The call at which a reader fails, and what was written before. The copying program reads single bytes of ab, two line
+// ends and c: all that was given is used. The other one reads two bytes a call, and needs the byte behind each number;
+// nothing asks for a fifth call.
+static FAILING: [(Row, &str); 13] = [
+    ((COPY, "ab\n\nc", 1, 1), "|read failed\n|3"),
+    ((COPY, "ab\n\nc", 1, 2), "a|read failed\n|3"),
+    ((COPY, "ab\n\nc", 1, 3), "ab|read failed\n|3"),
+    ((COPY, "ab\n\nc", 1, 4), "ab\n|read failed\n|3"),
+    ((COPY, "ab\n\nc", 1, 5), "ab\n\n|read failed\n|3"),
+    ((COPY, "ab\n\nc", 1, 6), "ab\n\nc|read failed\n|3"),
+    ((COPY, "ab\n\nc", 1, 0), "ab\n\nc\n||0"),
+    ((NUMBERS, "2 10 2 ", 2, 1), "|read failed\n|3"),
+    ((NUMBERS, "2 10 2 ", 2, 2), "|read failed\n|3"),
+    ((NUMBERS, "2 10 2 ", 2, 3), "|read failed\n|3"),
+    ((NUMBERS, "2 10 2 ", 2, 4), "|read failed\n|3"),
+    ((NUMBERS, "2 10 2 ", 2, 5), "10.2.||0"),
+    ((NUMBERS, "2 10 2 ", 2, 0), "10.2.||0"),
 ];
-
-fn failing_copy_told(alloc: Global, failing: &u32) -> Result<String, Fault> {
-    let reader = Cut {
-        rest: b"ab\n\nc",
-        length: 1,
-        failing: *failing,
-        calls: 0,
-    };
-    told_over(alloc, COPY, reader)
-}
 
 #[test]
 fn what_was_read_before_a_failure_is_used(rt: HostRuntime) -> Result<(), Fail> {
-    all_hold(rt.alloc(), &FAILING_COPIES, failing_copy_told)
-}
-
-// The same of two bytes a call, and of numbers: the byte behind each is needed. Nothing asks for a fifth call.
-static FAILING_NUMBERS: [(u32, &str); 6] = [
-    (1, "|read failed\n|3"),
-    (2, "|read failed\n|3"),
-    (3, "|read failed\n|3"),
-    (4, "|read failed\n|3"),
-    (5, "10.2.||0"),
-    (0, "10.2.||0"),
-];
-
-fn failing_numbers_told(alloc: Global, failing: &u32) -> Result<String, Fault> {
-    let reader = Cut {
-        rest: b"2 10 2 ",
-        length: 2,
-        failing: *failing,
-        calls: 0,
-    };
-    told_over(alloc, NUMBERS, reader)
-}
-
-#[test]
-fn a_failure_behind_all_that_is_read_is_never_met(rt: HostRuntime) -> Result<(), Fail> {
-    all_hold(rt.alloc(), &FAILING_NUMBERS, failing_numbers_told)
+    all_hold(rt.alloc(), &FAILING, row_told)
 }
 
 // A reader that gives all that there is room for: 8,000 bytes come in two calls, and the third says that none is left.

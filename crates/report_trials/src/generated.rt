@@ -1,6 +1,7 @@
 //! Programs that look random, and certificates of them, right and wrong.
 
 use crate::numbers::Numbers;
+use crate::pieces::Text;
 use std::alloc::{AllocError, Global};
 
 // What may stand for a letter or sign that has a row here; those in it stand for further texts.
@@ -271,14 +272,6 @@ static CHOICES: [(u8, &[&str]); 39] = [
     (b'&', &["t", "t", "V"]),
 ];
 
-// Puts a text behind the rest, its end first.
-fn put(text: &str, rest: &mut Vec<u8>) -> Result<(), AllocError> {
-    for byte in text.bytes().rev() {
-        rest.push(byte)?;
-    }
-    Ok(())
-}
-
 // One of the texts for a letter or sign, if there are any.
 fn choice(numbers: &mut Numbers, letter: u8) -> Option<&'static str> {
     for (own, texts) in &CHOICES {
@@ -289,8 +282,8 @@ fn choice(numbers: &mut Numbers, letter: u8) -> Option<&'static str> {
     None
 }
 
-const VARIABLES: &[u8] =
-    b"program p(input, output); var a, b, c: integer; d, e: Boolean; i, j: integer;
+const VARIABLES: &str =
+    "program p(input, output); var a, b, c: integer; d, e: Boolean; i, j: integer;
 f, g: char; h: (red, green, blue); k: 1..9; u, v: set of 0..9;
 w: array [1..2] of record x: integer; y: set of 0..9 end;
 ";
@@ -309,21 +302,23 @@ v := [1..3]; w[1].x := 2; w[1].y := []; Pend.";
 // A program of a few statements over five integers and two Booleans, two characters, a colour, a digit, two sets and
 // two records, with a function and two procedures, one in the other; it reads now and then.
 pub(crate) fn program(alloc: Global, numbers: &mut Numbers) -> Result<Vec<u8>, AllocError> {
-    let mut text = Vec::from_slice(alloc, VARIABLES)?;
+    let mut text = Text::new(alloc);
+    text.put(VARIABLES);
     // What is still to be written, its end first.
-    let mut rest = Vec::new(alloc);
-    put(BODY, &mut rest)?;
-    put(ROUTINES, &mut rest)?;
+    let mut rest = Text::new(alloc);
+    rest.put_turned(BODY);
+    rest.put_turned(ROUTINES);
     for _ in 0..10_000 {
-        let Some(byte) = rest.pop() else {
+        let Some(byte) = rest.bytes.pop() else {
             break;
         };
         match choice(numbers, byte) {
-            Some(chosen) => put(chosen, &mut rest)?,
-            None => text.push(byte)?,
+            Some(chosen) => rest.put_turned(chosen),
+            None => text.put_byte(byte),
         }
     }
-    Ok(text)
+    text.is_short |= rest.is_short;
+    text.finish()
 }
 
 // At most so many pieces of an input.
@@ -331,13 +326,13 @@ const PIECES: usize = 24;
 
 // An input for a program: numbers in the main, some letters, signs and line ends.
 pub(crate) fn input(alloc: Global, numbers: &mut Numbers) -> Result<Vec<u8>, AllocError> {
-    let mut text = Vec::new(alloc);
+    let mut text = Text::new(alloc);
     for _ in 0..numbers.below(PIECES) {
         if let Some(piece) = choice(numbers, b'}') {
-            text.extend_from_slice(piece.as_bytes())?;
+            text.put(piece);
         }
     }
-    Ok(text)
+    text.finish()
 }
 
 // Where the program's own statements begin.
@@ -362,25 +357,25 @@ fn loops(source: &[u8]) -> usize {
     found
 }
 
-// The least and the greatest number of a range that a certificate claims.
-const RANGES: [(i32, i32); 8] = [
-    (-2_147_483_647, 2_147_483_647),
-    (-2_147_483_647, 2_147_483_646),
-    (-2_147_483_646, 2_147_483_647),
-    (0, 9),
-    (-1, 9),
-    (0, 2_147_483_647),
-    (-2, 3),
-    (3, 3),
+// How a line ends that claims a range: with its least and its greatest number.
+const RANGES: [&str; 8] = [
+    " -2147483647 2147483647\n",
+    " -2147483647 2147483646\n",
+    " -2147483646 2147483647\n",
+    " 0 9\n",
+    " -1 9\n",
+    " 0 2147483647\n",
+    " -2 3\n",
+    " 3 3\n",
 ];
 
 // What a section of a block may say: the pair of each root with a variable parameter, if there is one; the roots that
 // change; those of which it may say that they are defined at the begin; the result, if it has one.
 struct Section {
-    parameter: Option<u32>,
-    changes: &'static [u32],
-    entries: &'static [u32],
-    result: Option<u32>,
+    parameter: Option<usize>,
+    changes: &'static [usize],
+    entries: &'static [usize],
+    result: Option<usize>,
 }
 
 // By block, from 1: of s, of q and of r. Roots from 14: the result and m of s, then n and t of q.
@@ -411,104 +406,94 @@ pub(crate) fn certificate(
     alloc: Global,
     numbers: &mut Numbers,
     source: &[u8],
-) -> Result<String, AllocError> {
-    let mut text = String::from_str(alloc, "pcert 1\n")?;
+) -> Result<Vec<u8>, AllocError> {
+    let mut text = Text::new(alloc);
+    text.put("pcert 1\n");
     let all = loops(source);
     // The loops of q, which stand first, and then the program's own.
     let inner = loops(&source[..start(source).min(source.len())]);
     if inner < all {
-        text.push_str("proc 0\n")?;
+        text.put("proc 0\n");
     }
     for number in inner..all {
-        push_changes(alloc, numbers, &mut text, number, 14)?;
-        push_facts(alloc, numbers, &mut text)?;
+        put_changes(numbers, &mut text, number, 14);
+        put_facts(numbers, &mut text);
     }
     for (place, section) in SECTIONS.iter().enumerate() {
-        text.push_str(format!(in alloc; "proc {}\n", place + 1)?.as_str())?;
-        push_section(alloc, numbers, &mut text, section)?;
+        text.put_line("proc ", place + 1);
+        put_section(numbers, &mut text, section);
         if section.parameter.is_some() {
             for number in 0..inner {
-                push_changes(alloc, numbers, &mut text, number, 18)?;
+                put_changes(numbers, &mut text, number, 18);
                 if numbers.below(5) == 0 {
-                    push_facts(alloc, numbers, &mut text)?;
+                    put_facts(numbers, &mut text);
                 }
             }
         }
     }
-    Ok(text)
+    text.finish()
 }
 
 // What a section says before its loops.
-fn push_section(
-    alloc: Global,
-    numbers: &mut Numbers,
-    text: &mut String,
-    section: &Section,
-) -> Result<(), AllocError> {
+fn put_section(numbers: &mut Numbers, text: &mut Text, section: &Section) {
     let forgotten = numbers.below(200);
     if let Some(parameter) = section.parameter {
         for root in 0..3usize {
             if root + 100 != forgotten {
-                text.push_str(format!(in alloc; "alias v{root} v{parameter}\n")?.as_str())?;
+                text.put_number("alias v", root);
+                text.put_line(" v", parameter);
             }
         }
     }
     for root in section.changes {
-        if *root as usize != forgotten {
-            text.push_str(format!(in alloc; "change v{root}\n")?.as_str())?;
+        if *root != forgotten {
+            text.put_line("change v", *root);
         }
     }
     for root in section.entries {
         let often = if *root < 2 { 7 } else { 1 };
         if numbers.below(8) < often {
-            text.push_str(format!(in alloc; "entry defined v{root}\n")?.as_str())?;
+            text.put_line("entry defined v", *root);
         }
     }
     if let Some(root) = section.result
         && numbers.below(25) == 0
     {
-        let (least, greatest) = RANGES[numbers.below(8)];
-        text.push_str(format!(in alloc; "exit range v{root} {least} {greatest}\n")?.as_str())?;
+        text.put_number("exit range v", root);
+        text.put(RANGES[numbers.below(8)]);
     }
-    Ok(())
 }
 
 // The line of a loop, and what it may change; roots from `limit` on aren't its own.
-fn push_changes(
-    alloc: Global,
-    numbers: &mut Numbers,
-    text: &mut String,
-    number: usize,
-    limit: usize,
-) -> Result<(), AllocError> {
-    text.push_str(format!(in alloc; "loop {number}\n")?.as_str())?;
+fn put_changes(numbers: &mut Numbers, text: &mut Text, number: usize, limit: usize) {
+    text.put_line("loop ", number);
     let forgotten = numbers.below(100);
     for root in 0..limit {
         // The sixth and the seventh are control variables, and two belong to s.
         if ![5, 6, 14, 15, forgotten].contains(&root) {
-            text.push_str(format!(in alloc; "change v{root}\n")?.as_str())?;
+            text.put_line("change v", root);
         }
     }
-    Ok(())
 }
 
-fn push_facts(alloc: Global, numbers: &mut Numbers, text: &mut String) -> Result<(), AllocError> {
+fn put_facts(numbers: &mut Numbers, text: &mut Text) {
     for path in ["v0", "v1", "v2", "v11", "v12", "v13[].x", "v13[].y"] {
         if numbers.below(12) == 0 {
-            let (least, greatest) = RANGES[numbers.below(8)];
-            text.push_str(format!(in alloc; "fact range {path} {least} {greatest}\n")?.as_str())?;
+            text.put("fact range ");
+            text.put(path);
+            text.put(RANGES[numbers.below(8)]);
         }
     }
     for root in 0..14usize {
         if numbers.below(12) == 0 {
-            text.push_str(format!(in alloc; "fact defined v{root}\n")?.as_str())?;
+            text.put_line("fact defined v", root);
         }
     }
     for root in 0..3usize {
         if numbers.below(20) == 0 {
-            let other = numbers.below(3);
-            text.push_str(format!(in alloc; "fact order v{root} v{other} 1\n")?.as_str())?;
+            text.put_number("fact order v", root);
+            text.put_number(" v", numbers.below(3));
+            text.put(" 1\n");
         }
     }
-    Ok(())
 }

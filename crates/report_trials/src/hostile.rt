@@ -1,4 +1,5 @@
 use crate::numbers::Numbers;
+use crate::pieces::Text;
 use crate::shown::refusal;
 use std::alloc::{AllocError, Global};
 use std::test::Fail;
@@ -13,20 +14,19 @@ const PIECES: [&str; 63] = [
 ];
 
 fn text_of_pieces(alloc: Global, numbers: &mut Numbers) -> Result<Vec<u8>, AllocError> {
-    let mut text = Vec::new(alloc);
+    let mut text = Text::new(alloc);
     for _ in 0..numbers.below(30) {
-        let piece = PIECES[numbers.below(63)];
-        text.extend_from_slice(piece.as_bytes())?;
+        text.put(PIECES[numbers.below(63)]);
     }
-    Ok(text)
+    text.finish()
 }
 
 fn text_of_bytes(alloc: Global, numbers: &mut Numbers) -> Result<Vec<u8>, AllocError> {
-    let mut text = Vec::new(alloc);
+    let mut text = Text::new(alloc);
     for _ in 0..numbers.below(40) {
-        text.push(numbers.below(256) as u8)?;
+        text.put_byte(numbers.below(256) as u8);
     }
-    Ok(text)
+    text.finish()
 }
 
 // Whether a text compiles. Fails where it is neither compiled nor refused.

@@ -108,52 +108,44 @@ fn each_entry_is_visited_once(rt: HostRuntime) -> Result<(), Fail> {
     all_hold(rt.alloc(), &VISITS, visits_told)
 }
 
-// Cells and a budget, and the output, the line of the stop and the status.
-// The frame takes four cells, the variable one, and the value and its width two more.
-static RUNS: [((u32, u64), &str); 4] = [
-    ((3, u64::MAX), "||store full\n|6"),
-    ((6, u64::MAX), "||store full\n|6"),
-    ((7, u64::MAX), "|         1\n||0"),
-    ((7, 0), "||budget used up\n|3"),
-];
+// A source, the cells of the store and a budget.
+type Row = (&'static str, u32, u64);
 
-fn limited_told(alloc: Global, row: &(u32, u64)) -> Result<String, Fault> {
-    let source = b"program p(output); var x: integer; begin x := 1; writeln(x) end.";
-    let shown = show(alloc, source, row.0.clamp(1, CELLS), row.1)?;
-    Ok(shown_told(alloc, &shown)?)
-}
-
-#[test]
-fn cells_and_budget_run_out(rt: HostRuntime) -> Result<(), Fail> {
-    all_hold(rt.alloc(), &RUNS, limited_told)
-}
+const ONE: &str = "program p(output); var x: integer; begin x := 1; writeln(x) end.";
 
 const ENDLESS: &str = "program p(output); begin while true do write(1:1) end.";
 
 const THREE_TURNS: &str =
     "program p(output); var i: integer; begin for i := 1 to 3 do write(i:1) end.";
 
-// Sources with a budget that ends inside a loop, or just behind it. The first instruction enters the block. A turn of
-// the while takes 6, and the 5th of them writes. The for takes 8 before its turns and 14 a turn, of which the 5th
-// writes; the last turn takes 9, and then come 4 that end the loop, and the end of the run.
-static BUDGETS: [((&str, u64), &str); 9] = [
-    ((ENDLESS, 5), "||budget used up\n|3"),
-    ((ENDLESS, 6), "|1|budget used up\n|3"),
-    ((ENDLESS, 29), "|1111|budget used up\n|3"),
-    ((ENDLESS, 30), "|11111|budget used up\n|3"),
-    ((THREE_TURNS, 13), "||budget used up\n|3"),
-    ((THREE_TURNS, 14), "|1|budget used up\n|3"),
-    ((THREE_TURNS, 42), "|123|budget used up\n|3"),
-    ((THREE_TURNS, 50), "|123|budget used up\n|3"),
-    ((THREE_TURNS, 51), "|123||0"),
+// Runs, and their output, the line of the stop and the status.
+static RUNS: [(Row, &str); 13] = [
+    // The frame takes four cells, the variable one, and the value and its width two more.
+    ((ONE, 3, u64::MAX), "||store full\n|6"),
+    ((ONE, 6, u64::MAX), "||store full\n|6"),
+    ((ONE, 7, u64::MAX), "|         1\n||0"),
+    ((ONE, 7, 0), "||budget used up\n|3"),
+    // The first instruction enters the block. A turn of the while takes 6, and the 5th of them writes.
+    ((ENDLESS, CELLS, 5), "||budget used up\n|3"),
+    ((ENDLESS, CELLS, 6), "|1|budget used up\n|3"),
+    ((ENDLESS, CELLS, 29), "|1111|budget used up\n|3"),
+    ((ENDLESS, CELLS, 30), "|11111|budget used up\n|3"),
+    // The for takes 8 before its turns and 14 a turn, of which the 5th writes; the last turn takes 9, and then come 4
+    // that end the loop, and the end of the run.
+    ((THREE_TURNS, CELLS, 13), "||budget used up\n|3"),
+    ((THREE_TURNS, CELLS, 14), "|1|budget used up\n|3"),
+    ((THREE_TURNS, CELLS, 42), "|123|budget used up\n|3"),
+    ((THREE_TURNS, CELLS, 50), "|123|budget used up\n|3"),
+    ((THREE_TURNS, CELLS, 51), "|123||0"),
 ];
 
-fn budget_told(alloc: Global, row: &(&str, u64)) -> Result<String, Fault> {
-    let shown = show(alloc, row.0.as_bytes(), CELLS, row.1)?;
+fn limited_told(alloc: Global, row: &Row) -> Result<String, Fault> {
+    let (source, cells, budget) = *row;
+    let shown = show(alloc, source.as_bytes(), cells.clamp(1, CELLS), budget)?;
     Ok(shown_told(alloc, &shown)?)
 }
 
 #[test]
-fn budgets_end_inside_loops(rt: HostRuntime) -> Result<(), Fail> {
-    all_hold(rt.alloc(), &BUDGETS, budget_told)
+fn cells_and_budget_run_out(rt: HostRuntime) -> Result<(), Fail> {
+    all_hold(rt.alloc(), &RUNS, limited_told)
 }

@@ -17,6 +17,8 @@ mod memory;
 #[cfg(test)]
 mod numbers;
 #[cfg(test)]
+mod pieces;
+#[cfg(test)]
 mod programs;
 #[cfg(test)]
 mod rows;

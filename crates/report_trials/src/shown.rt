@@ -2,6 +2,7 @@
 
 ghost use Rattle.std.specs.Prelude.{◌≤◌};
 
+use crate::pieces::Text;
 use cert_checker::Verdict;
 use interpreter::interpret;
 use meaning::outcome::{Ending, Outcome};
@@ -183,11 +184,11 @@ pub(crate) fn refusal_told(alloc: Global, fault: &Fault) -> Result<String, Fail>
 
 // Source text in parts, each repeated.
 pub(crate) fn repeated(alloc: Global, parts: &[(&str, usize)]) -> Result<Vec<u8>, AllocError> {
-    let mut text = Vec::new(alloc);
+    let mut text = Text::new(alloc);
     for (part, count) in parts {
         for _ in 0..*count {
-            text.extend_from_slice(part.as_bytes())?;
+            text.put(part);
         }
     }
-    Ok(text)
+    text.finish()
 }

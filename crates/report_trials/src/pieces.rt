@@ -1,0 +1,61 @@
+//! Texts that are put together of pieces. Whether one lacked memory is asked for once, behind all of them.
+
+use std::alloc::{AllocError, Global};
+
+// A text, and whether a piece of it found no memory.
+#[derive(Drop)]
+pub(crate) struct Text {
+    pub(crate) bytes: Vec<u8>,
+    pub(crate) is_short: bool,
+}
+
+impl Text {
+    pub(crate) fn new(alloc: Global) -> Text {
+        Text {
+            bytes: Vec::new(alloc),
+            is_short: false,
+        }
+    }
+
+    pub(crate) fn put(&mut self, piece: &str) {
+        if self.bytes.extend_from_slice(piece.as_bytes()).is_err() {
+            self.is_short = true;
+        }
+    }
+
+    pub(crate) fn put_byte(&mut self, byte: u8) {
+        if self.bytes.push(byte).is_err() {
+            self.is_short = true;
+        }
+    }
+
+    // The bytes of a piece, the last one first.
+    pub(crate) fn put_turned(&mut self, piece: &str) {
+        for byte in piece.bytes().rev() {
+            self.put_byte(byte);
+        }
+    }
+
+    // A piece, and a number below 1,000 behind it.
+    pub(crate) fn put_number(&mut self, piece: &str, number: usize) {
+        self.put(piece);
+        for unit in [100, 10, 1] {
+            if number >= unit || unit == 1 {
+                self.put_byte(b'0' + (number / unit % 10) as u8);
+            }
+        }
+    }
+
+    // The same, and the end of the line.
+    pub(crate) fn put_line(&mut self, piece: &str, number: usize) {
+        self.put_number(piece, number);
+        self.put_byte(b'\n');
+    }
+
+    pub(crate) fn finish(self) -> Result<Vec<u8>, AllocError> {
+        if self.is_short {
+            return Err(AllocError);
+        }
+        Ok(self.bytes)
+    }
+}
