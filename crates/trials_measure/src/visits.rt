@@ -1,12 +1,10 @@
-//! `guess_visits SOURCE..` tells of each source what it takes to find its certificate: how often the analyser enters a
-//! statement or an expression, how many of both the program has, and how often the checker refuses what was found.
-#![tactic(auto)]
+//! What it takes to find certificates.
 
 use analyser::find;
 use report::compile::compile;
 use report::fault::Fault;
 use std::alloc::Global;
-use std::{env, fs, io};
+use std::{fs, io};
 
 /// What it takes to find a certificate.
 #[derive(Clone, Copy)]
@@ -16,9 +14,11 @@ struct Counts {
     refusals: u32,
 }
 
-fn main(rt: HostRuntime) -> io::Result<()> {
-    for path in env::args(&rt)?.skip(1) {
-        let source = fs::read(&rt, path.as_str())?;
+/// Tells of each source what it takes to find its certificate: how often the analyser enters a statement or an
+/// expression, how many of both the program has, and how often the checker refuses what was found.
+pub(crate) fn visits(rt: &HostRuntime, paths: &[String]) -> io::Result<()> {
+    for path in paths {
+        let source = fs::read(rt, path.as_str())?;
         match counted(rt.alloc(), &source) {
             Ok(counts) => println!(rt;
                 "visits {} entries {} refusals {}",

@@ -1,6 +1,4 @@
-//! `machine_bench RUNS` runs a code of 999,999 straight-line instructions so many times, and tells how the last run
-//! stopped.
-#![tactic(auto)]
+//! Runs of a code of 999,999 straight-line instructions.
 
 use pcode_assembler::code::{Code, Site};
 use pcode_assembler::instr::Instr;
@@ -8,7 +6,7 @@ use stack_machine::bytes::Counted;
 use stack_machine::machine::Machine;
 use stack_machine::stop::Stop;
 use std::alloc::{AllocError, Global};
-use std::{env, io};
+use std::io;
 
 /// How many instructions the code has.
 const LENGTH: usize = 999_999;
@@ -93,11 +91,12 @@ const START: [Instr; 5] = [
     },
 ];
 
-fn main(rt: HostRuntime) -> io::Result<()> {
-    let mut runs = 1;
-    for word in env::args(&rt)? {
-        runs = word.as_str().parse::<u32>().unwrap_or(runs);
-    }
+/// Runs the code so many times, and tells how the last run stopped.
+pub(crate) fn bench(rt: &HostRuntime, words: &[String]) -> io::Result<()> {
+    let runs = match words.first() {
+        Some(word) => word.as_str().parse::<u32>().unwrap_or(1),
+        None => 1,
+    };
     let code = straight_line(rt.alloc())?;
     let mut machine = Machine::new(rt.alloc(), CELLS)?;
     let mut word = "not run";

@@ -1,1 +1,0 @@
-program p; var x: integer; begin x := 1 end.
