@@ -10,6 +10,7 @@ mod ExamplesOfSets
 pub mod Asking
 pub mod Reading
 pub mod Steps
+pub mod Obeying
 pub mod Running
 pub mod Finishing
 pub mod Growing
