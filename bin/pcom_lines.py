@@ -12,7 +12,9 @@ OUTPUT, ERRORS = 1, 2
 PIECE = 65536
 TROUBLE = 3
 
-PLACED = re.compile(rb"(\d{1,18}):(\d{1,18}): (possible error:|error:|input:|refused|certificate refused) (.+)")
+PLACED = re.compile(
+    rb"(\d{1,18}):(\d{1,18}): ((?:possible error|error|input)(?=:)|(?:certificate )?refused(?= )):? (.+)"
+)
 CLAIMED = re.compile(rb"certificate:(\d{1,18}): refused (\S+)")
 PLAIN = re.compile(rb"(refused|certificate refused|machine fault) (\S+)")
 PATH = re.compile(rb"(cannot read|cannot write) (.*)")
@@ -24,6 +26,8 @@ class Message(NamedTuple):
     """What a line says: a code or a name, and the place, where it has one. A line of a certificate has no column."""
 
     name: str
+    # What stands before the name, as `possible error`; nothing where the name is all of the line.
+    kind: str = ""
     line: int = 0
     column: int = 0
     is_of_certificate: bool = False
@@ -47,13 +51,14 @@ def message_of(line):
         return Message(name_of(text), is_stop=text in STOPS)
     found = PLACED.fullmatch(text)
     if found:
-        return Message(name_of(found[4]), int(found[1]), int(found[2]), is_stop=found[3] in (b"error:", b"input:"))
+        place = int(found[1]), int(found[2])
+        return Message(name_of(found[4]), name_of(found[3]), *place, is_stop=found[3] in (b"error", b"input"))
     found = CLAIMED.fullmatch(text)
     if found:
-        return Message(name_of(found[2]), int(found[1]), is_of_certificate=True)
+        return Message(name_of(found[2]), "refused", int(found[1]), is_of_certificate=True)
     found = PLAIN.fullmatch(text)
     if found:
-        return Message(name_of(found[2]), is_stop=found[1] == b"machine fault")
+        return Message(name_of(found[2]), name_of(found[1]), is_stop=found[1] == b"machine fault")
     found = PATH.fullmatch(text)
     return Message(name_of(found[1]), path=found[2]) if found else None
 

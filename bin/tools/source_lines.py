@@ -32,15 +32,21 @@ def can_be_read_twice(path):
     return path not in (None, "-", "/dev/stdin") and os.path.isfile(path)
 
 
-def lines_of(path):
-    """The lines of a file, as pcom counts them; none where it can't be read."""
+def bytes_of(path):
+    """What a file holds; None where it can't be read twice."""
     if not can_be_read_twice(path):
-        return []
+        return None
     try:
         with open(path, "rb") as file:
-            return file.read().split(b"\n")
+            return file.read()
     except (OSError, MemoryError):
-        return []
+        return None
+
+
+def lines_of(path):
+    """The lines of a file, as pcom counts them; none where it can't be read."""
+    text = bytes_of(path)
+    return [] if text is None else text.split(b"\n")
 
 
 def shown(message, line):

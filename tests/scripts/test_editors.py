@@ -35,6 +35,7 @@ OTHERS = (
     "no memory",
     "cannot read x",
     "pcom: 4:2: a line",
+    "pcom: not proved here (bin/prove proves it)",
 )
 
 # Writes the list of places that :make gives.

@@ -107,6 +107,21 @@ class OverTheProgram(ExplainCase):
         )
         self.assert_shown("    4 |         write(1: 1); write(x: 1)\n      |                            ^\n")
 
+    def test_why(self):
+        text = b"program p(input, output);\nvar x: integer;\nbegin\n  read(x);\n  if x > 7 then writeln(x * x)\nend.\n"
+        put(self.folder, "a.pas", text)
+        place = "5:27: possible error: overflow 5 | if x > 7 then writeln(x * x) | ^"
+        for words in (["--why", "a.pas"], ["a.pas", "--why=1"]):
+            self.assertEqual(self.explain(*words), 1)
+            self.assert_told(f"{place} x lies in 8..2147483647 <>", "overflow")
+        self.assertEqual(self.explain("--go", "--why", "a.pas", input=b"99999"), 4)
+        self.assert_told(
+            f"{place} x lies in 8..2147483647 <> {place.replace('possible error', 'error')}", "overflow"
+        )
+        # These are no options of bin/explain.
+        for words in (["--why=0", "a.pas"], ["--cert", "--why", "a.pas"], ["--", "--why"]):
+            self.assertNotIn(self.explain(*words), (0, 1))
+
     def test_certificate(self):
         put(self.folder, "a.pas", OPEN)
         put(self.folder, "a.cert", b"pcert 1\n  foo\n")
