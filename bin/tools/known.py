@@ -84,8 +84,7 @@ class Knowledge:
 
     def ranges(self, places):
         """For each of these places the operands there, each with its range, where no place before has them."""
-        lines = [0, *(found.end() for found in re.finditer("\n", self.text))]
-        statements = [self.statements.holding(lines[line - 1] + column - 1) for line, column in places]
+        statements = [self.statements.holding(pascal.place_of(self.text, *place)) for place in places]
         operands = {it: list(self.operands(it)) for it in statements if it}
         found = self.found(self.types({one for group in operands.values() for one in group}))
         return [[(one, found[one]) for one in operands.pop(it, ()) if one in found] for it in statements]

@@ -22,8 +22,18 @@ REQUIRED = frozenset(
     "abs boolean char chr eof eoln false input integer maxint odd ord output pred read readln sqr succ true write"
     " writeln".split()
 )
+# More levels than a program may have.
+MOST_LEVELS = 200
 # What ends a statement that has no end of its own.
 BEHIND = (";", "end", "else", "until", "")
+
+
+def place_of(text, line, column):
+    """Where a line and a column, both from 1, are in a text."""
+    start = 0
+    for _ in range(line - 1):
+        start = text.index("\n", start) + 1
+    return start + column - 1
 
 
 class Token(NamedTuple):
@@ -63,7 +73,7 @@ class Statements:
     def __init__(self, tokens):
         self.tokens = tokens
         self.found = []
-        self.block = 0
+        self.block = self.level = 0
         # Where the statement parts begin and end.
         self.parts = []
         at = 0
@@ -99,6 +109,15 @@ class Statements:
 
     def statement(self, at):
         """Reads a statement; gives the number of the token behind it."""
+        self.level += 1
+        end = self.structured(at) if self.level < MOST_LEVELS else self.simple(at)
+        self.level -= 1
+        return end
+
+    def simple(self, at):
+        return self.keep("", at, *2 * (self.next(at, *BEHIND),))
+
+    def structured(self, at):
         word = self.word(at)
         if word == "begin":
             return self.sequence(at + 1, "end") + 1
@@ -109,7 +128,7 @@ class Statements:
             return self.case(at)
         if word in ("if", "while", "for", "with"):
             return self.headed(at, "then" if word == "if" else "do")
-        return self.keep("", at, *2 * (self.next(at, *BEHIND),))
+        return self.simple(at)
 
     def headed(self, at, mark):
         """Reads a statement whose head ends with a mark."""

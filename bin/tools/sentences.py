@@ -5,9 +5,9 @@ import configparser
 import difflib
 import os
 import re
-from typing import NamedTuple
 
 from pcom_lines import ERRORS, TOP, Stream
+from tools.hints import hint_of
 from tools.terminal import encoded, one_line
 
 FILE = os.path.join(TOP, "docs", "explanations.ini")
@@ -16,14 +16,6 @@ HINT = "hint: "
 # A comment that stands alone above a section.
 HEADING = re.compile(r"# (.*)\.\n\n(?=\[)|^\[(.*)\]$", re.M)
 CODE = re.compile(r"[a-z]\d+")
-
-
-class Hint(NamedTuple):
-    """A sentence for the place of a code or a name where the line from there on has a certain form."""
-
-    at: str
-    behind: re.Pattern
-    says: str
 
 
 class Sentences:
@@ -49,10 +41,6 @@ class Sentences:
         """The sentences of a name: what it means, and how to mend it."""
         return self.by_name.get(key_of(name), [])
 
-    def hints_at(self, name, rest):
-        """The hints for a name at a place of the source; `rest` is its line from there on."""
-        return [hint.says for hint in self.hints if hint.at == key_of(name) and hint.behind.match(rest)]
-
     def similar(self, name):
         """The names, as they are written, that are like one that there isn't: for a code those of its letter, or else
         of its number, and for another name those of nearly the same letters."""
@@ -68,10 +56,6 @@ class Sentences:
 
 def said(section):
     return [one_line(section[key]) for key in KEYS if section.get(key)]
-
-
-def hint_of(section):
-    return Hint(key_of(section["at"]), re.compile(section["from"].encode("ascii"), re.I), one_line(section["says"]))
 
 
 def groups_of(text):

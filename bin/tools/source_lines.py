@@ -6,13 +6,15 @@ import re
 from tools.terminal import MARGIN, WIDTH, cells
 
 CUT = ".."
+# The size of the largest source.
+MOST_BYTES = 1048576
 # Bytes that no line of a text has: those below 32, but for a tab, a form feed and the return that ends lines elsewhere.
 OF_NO_TEXT = re.compile(rb"[^\t\f\r\x20-\xff]")
 
 
 class Texts:
-    """The lines of the files that messages name. Each is read where a message asks for it, if it is a file that can be
-    read twice."""
+    """The files that messages name. Each is read where a message asks for it, if it is a file that can be read
+    twice."""
 
     def __init__(self, files):
         self.files = files
@@ -20,11 +22,20 @@ class Texts:
 
     def line(self, message):
         """The line of a message; None where there is none."""
-        path = self.files.certificate if message.is_of_certificate else self.files.source
-        if path not in self.read:
-            self.read[path] = lines_of(path)
-        lines = self.read[path]
+        lines = self.lines(self.files.certificate if message.is_of_certificate else self.files.source)
         return lines[message.line - 1] if 0 < message.line <= len(lines) else None
+
+    def lines(self, path):
+        """The lines of a file, as pcom counts them; none where it can't be read."""
+        if path not in self.read:
+            text = bytes_of(path)
+            self.read[path] = [] if text is None else text.split(b"\n")
+        return self.read[path]
+
+    def source(self):
+        """The text of the source; None where it can't be read, or pcom wouldn't."""
+        text = b"\n".join(self.lines(self.files.source))
+        return text if len(text) <= MOST_BYTES else None
 
 
 def can_be_read_twice(path):
@@ -41,12 +52,6 @@ def bytes_of(path):
             return file.read()
     except (OSError, MemoryError):
         return None
-
-
-def lines_of(path):
-    """The lines of a file, as pcom counts them; none where it can't be read."""
-    text = bytes_of(path)
-    return [] if text is None else text.split(b"\n")
 
 
 def shown(message, line):
