@@ -20,10 +20,17 @@ class Texts:
         self.files = files
         self.read = {}
 
+    def path(self, message):
+        """The path of the file that a message is of."""
+        return self.files.certificate if message.is_of_certificate else self.files.source
+
     def line(self, message):
         """The line of a message; None where there is none."""
-        lines = self.lines(self.files.certificate if message.is_of_certificate else self.files.source)
-        return lines[message.line - 1] if 0 < message.line <= len(lines) else None
+        return self.line_of(self.path(message), message.line)
+
+    def line_of(self, path, number):
+        lines = self.lines(path)
+        return lines[number - 1] if 0 < number <= len(lines) else None
 
     def lines(self, path):
         """The lines of a file, as pcom counts them; none where it can't be read."""

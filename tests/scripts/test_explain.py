@@ -2,6 +2,7 @@
 
 import configparser
 import os
+import re
 import shutil
 import signal
 import subprocess
@@ -14,6 +15,7 @@ from stand_in import make_stand_in, put, taken
 TOP = os.path.dirname(os.path.dirname(os.path.dirname(os.path.abspath(__file__))))
 PROGRAM = os.environ["PCOM"]
 SECONDS = 60
+LAST_LINE = re.compile(r"^.*: \d+ sites?, \d+ closed, \d+ told.*\n\Z", re.M)
 OPEN = b"program p(output);\nvar x: integer;\nbegin\n\twrite(1: 1); write(x: 1)\nend.\n"
 # What the stand-in's sentences are.
 SENTENCES = b"""[index]
@@ -68,12 +70,12 @@ class OverTheProgram(ExplainCase):
 
     def assert_told(self, text, *names):
         """Standard error is the text, with the sentences of the next name in place of each `<>`, and its white space
-        doesn't matter in them."""
+        doesn't matter in them; and the line with the number of sites, where a program was taken."""
         parser = configparser.RawConfigParser()
         parser.read(os.path.join(TOP, "docs", "explanations.ini"), encoding="utf-8")
         for name in names:
             text = text.replace("<>", f"{parser[name]['means']} {parser[name]['mend']}", 1)
-        self.assertEqual(self.errors.split(), text.split())
+        self.assertEqual(LAST_LINE.sub("", self.errors).split(), text.split())
 
     def assert_shown(self, lines):
         self.assertIn(lines, self.errors)
@@ -153,7 +155,8 @@ class OverTheProgram(ExplainCase):
         words = ["--go", os.path.join(TOP, "examples", "sum.pas")]
         wanted = subprocess.run([PROGRAM, *words], stdout=subprocess.PIPE, timeout=SECONDS, check=True).stdout
         self.assertEqual(self.explain(*words), 0)
-        self.assertEqual((self.output, self.errors), (wanted, ""))
+        self.assertEqual(self.output, wanted)
+        self.assert_told("")
         self.assertTrue(wanted)
 
     def test_cannot_read(self):
@@ -197,6 +200,7 @@ class OverTheProgram(ExplainCase):
             stderr=subprocess.PIPE,
             timeout=SECONDS,
         )
+        # What is read once has no sites to count.
         self.assertEqual((ran.returncode, ran.stdout, ran.stderr), (0, wanted, b""))
 
     def test_source_as_input(self):
@@ -214,7 +218,10 @@ class OverTheProgram(ExplainCase):
         # Lines and output stand in their order where both go to one place.
         put(self.folder, "a.pas", OPEN)
         self.assertEqual(self.explain("--go", "a.pas", stderr=subprocess.STDOUT), 4)
-        self.assertRegex(self.output.decode(), r"(?s)^4:21: possible error: .*\n14:21: error: undefined variable\n")
+        self.assertRegex(
+            self.output.decode(),
+            r"(?s)^4:21: possible error: .*\n14:21: error: undefined variable\n.*\na.pas: 3 sites, 2 closed, 1 told",
+        )
 
     def test_name_alone(self):
         for words, name in ((["K5"], "K5"), (["k5"], "K5"), (["Undefined", "variable"], "undefined variable")):

@@ -1,0 +1,335 @@
+"""Tests of the forms in which bin/explain says what it knows: the last line and the table, objects of JSON, a log of
+SARIF, a page, and colours. All are made from the same records."""
+
+import glob
+import html.parser
+import json
+import os
+import pty
+import re
+import subprocess
+import sys
+import tempfile
+import unittest
+
+from stand_in import make_stand_in, put, taken
+
+TOP = os.path.dirname(os.path.dirname(os.path.dirname(os.path.abspath(__file__))))
+PROGRAM = os.path.abspath(os.environ.get("PCOM", os.path.join(TOP, "crates", "pcom", "out", "pcom")))
+SECONDS = 60
+# Where Debian puts what it has for Python.
+DEBIANS = "/usr/bin/python3"
+# The kinds of errors by their numbers in a code, from docs/CODE.md and the table of errors in docs/LANGUAGE.md.
+ERROR_OF_THE_PAGE = re.compile(r"^- `([a-z ]+)`, at ", re.M)
+TEXT_OF_JSON = """
+import json, sys, textwrap
+for line in sys.stdin:
+    one = json.loads(line)
+    lines = [one["told"], *one.get("shown", [])] if one["told"] is not None else []
+    said = [*one.get("known", []), *one.get("expected", []), *one.get("hints", [])]
+    said += [one["means"], one["mend"]] if one.get("is_first") else []
+    for sentence in filter(None, said):
+        lines += textwrap.wrap(sentence, 100, initial_indent=" " * 4, subsequent_indent=" " * 4, **WHOLE)
+    sys.stdout.buffer.write("".join(line + "\\n" for line in lines).encode("utf-8", "surrogateescape"))
+""".replace("**WHOLE", "break_long_words=False, break_on_hyphens=False")
+# Says which properties of a log SARIF doesn't have, and which it asks for that the log hasn't.
+CHECK_SARIF = """
+import attr, json, sarif_om, sys
+CLASSES = {"runs": "Run", "tool": "Tool", "driver": "ToolComponent", "rules": "ReportingDescriptor",
+    "results": "Result", "message": "Message",
+    "shortDescription": "MultiformatMessageString", "help": "MultiformatMessageString",
+    "invocations": "Invocation", "locations": "Location", "physicalLocation": "PhysicalLocation",
+    "artifactLocation": "ArtifactLocation", "region": "Region"}
+def check(it, name):
+    if isinstance(it, list):
+        for one in it:
+            check(one, name)
+    elif isinstance(it, dict):
+        known = {a.metadata["schema_property_name"]: a for a in attr.fields(getattr(sarif_om, name))}
+        for key in it.keys() - known.keys():
+            print("no property of", name, key)
+        for key, a in known.items():
+            if a.default is attr.NOTHING and key not in it:
+                print("not there in", name, key)
+        for key, one in it.items():
+            if isinstance(one, dict) or isinstance(one, list) and one and isinstance(one[0], dict):
+                check(one, CLASSES[key])
+check(json.load(open(sys.argv[1])), "SarifLog")
+"""
+SOURCES = {
+    "open": b"program p(output);\nvar x: integer;\nbegin\n\twrite(1: 1); { \xc3\xa9 } write(x: 1)\nend.\n",
+    "overflow": b"program p(input, output);\nvar x: integer;\nbegin\n  read(x); x := x * x;\n"
+    b"  x := x + 1; x := x div x\nend.\n",
+    "silent": b"program p(output);\nbegin\n  writeln(1: 1)\nend.\n",
+    "nothing": b"program p;\nbegin\nend.\n",
+    "token": b"program p(output);\nbegin\n  writeln(1)\n  writeln(2)\nend.\n",
+    "type": b"program p;\nvar c: char;\nbegin\n  c := 65\nend.\n",
+    "latin": b"program p;\nbegin { \xe4 } x\nend.\n",
+    "input": b"program p(input, output);\nvar x: integer;\nbegin\n  read(x)\nend.\n",
+    "empty": b"",
+}
+
+
+class RecordsCase(unittest.TestCase):
+    def setUp(self):
+        holder = tempfile.TemporaryDirectory()
+        self.addCleanup(holder.cleanup)
+        self.folder = holder.name
+        for name, text in SOURCES.items():
+            put(self.folder, f"{name}.pas", text)
+
+    def explain(self, *words, program=PROGRAM, **given):
+        """What is written to standard error."""
+        command = [sys.executable, os.path.join(TOP, "bin", "explain"), *words]
+        environment = {**os.environ, "PCOM": program, "PYTHONIOENCODING": "utf-8"}
+        streams = {"stdin": subprocess.DEVNULL, "stdout": subprocess.PIPE, "stderr": subprocess.PIPE}
+        ran = subprocess.run(command, cwd=self.folder, env=environment, timeout=SECONDS, **{**streams, **given})
+        self.assertNotIn(b"Traceback", ran.stderr)
+        return ran.stderr
+
+
+def sites_and_lines(path, folder):
+    """The kinds of the sites that a code lists, by number, and the names of those that are told."""
+    code = os.path.join(folder, "code")
+    streams = {"stdin": subprocess.DEVNULL, "stdout": subprocess.DEVNULL, "stderr": subprocess.PIPE}
+    ran = subprocess.run([PROGRAM, "--keep-checks", path, code], timeout=SECONDS, **streams)
+    sites = re.findall(r"^site (\d+) (\d+) (\d+)$", taken(folder, "code").decode(), re.M)
+    return sites, re.findall(r"^(\d+):(\d+): possible error: (.*)$", ran.stderr.decode(), re.M)
+
+
+class LastLine(RecordsCase):
+    def kinds(self):
+        with open(os.path.join(TOP, "docs", "LANGUAGE.md"), encoding="utf-8") as file:
+            section = file.read().partition("\n## Errors\n")[2].partition("\n## ")[0]
+        return ERROR_OF_THE_PAGE.findall(section)
+
+    def test_examples(self):
+        """The numbers of all examples are those of the code's lines and of the report's."""
+        for path in sorted(glob.glob(os.path.join(TOP, "examples", "**", "*.pas"), recursive=True)):
+            sites, told = sites_and_lines(path, self.folder)
+            kinds = sorted({name for _, _, name in told}, key=[name for _, _, name in told].count)
+            said = self.explain("--table", path).decode()
+            *_, last = said.splitlines()
+            numbers = f"{len(sites)} site{'s' * (len(sites) != 1)}, {len(sites) - len(told)} closed, {len(told)} told"
+            self.assertTrue(last.startswith(f"{path}: {numbers}"), last)
+            for kind in kinds:
+                count = sum(name == kind for _, _, name in told)
+                self.assertRegex(last, rf"[(,] ?{kind} {count}[,)]")
+            self.assertEqual("(" in last[len(path) :], bool(told))
+            rows = re.findall(r"^([a-z ]+?) +(\d+) +(\d+) +(\d+)$", said, re.M)
+            self.assertEqual(rows[-1], ("all", *re.findall(r"\d+", numbers)))
+            by_number = [sum(int(kind) == number for _, _, kind in sites) for number in range(1, 14)]
+            self.assertEqual([int(count) for _, count, _, _ in rows[:-1]], [count for count in by_number if count])
+            for kind, count, closed, of_told in rows[:-1]:
+                self.assertEqual(int(of_told), sum(name == kind for _, _, name in told))
+                self.assertEqual(int(count), int(closed) + int(of_told))
+
+    def test_kinds(self):
+        """The kinds have the numbers of the page's order; each told site is one of its kind in the code."""
+        kinds = self.kinds()
+        self.assertEqual(len(kinds), 13)
+        sites, told = sites_and_lines(os.path.join(self.folder, "overflow.pas"), self.folder)
+        self.assertEqual(len(told), 3)
+        for line, column, name in told:
+            self.assertIn((line, column, str(kinds.index(name) + 1)), sites)
+
+    def test_words(self):
+        for name, last in (
+            ("silent", "silent.pas: 1 site, 1 closed, 0 told"),
+            ("nothing", "nothing.pas: 0 sites, 0 closed, 0 told"),
+        ):
+            self.assertEqual(self.explain(f"{name}.pas").decode(), last + "\n")
+        self.assertTrue(self.explain("open.pas").endswith(b", 1 told (undefined variable 1)\n"))
+        for name in ("token", "type", "empty"):
+            self.assertNotIn(b" sites", self.explain(f"{name}.pas"))
+
+    def test_certificate(self):
+        loop = b"i := 1;\nwhile i < 9 do i := i + 1;\ni := i * i"
+        put(self.folder, "a.pas", b"program p;\nvar i: integer;\nbegin\n" + loop + b"\nend.\n")
+        put(self.folder, "a.cert", b"pcert 1\nproc 0\nloop 0\nchange v0\n")
+        self.assertIn(b" 0 told\n", self.explain("a.pas"))
+        self.assertIn(b"(overflow 1)\n", self.explain("--cert", "a.cert", "a.pas"))
+
+
+class Json(RecordsCase):
+    def text(self, lines):
+        words = [sys.executable, "-c", TEXT_OF_JSON]
+        return subprocess.run(words, input=lines, stdout=subprocess.PIPE, timeout=SECONDS, check=True).stdout
+
+    def test_the_text_comes_from_it(self):
+        put(self.folder, "bad.cert", b"pcert 1\n  foo\n")
+        for words in (
+            *([f"{name}.pas"] for name in SOURCES),
+            ["--why", "overflow.pas"],
+            ["--go", "open.pas"],
+            ["--go", "input.pas"],
+            ["--cert", "bad.cert", "open.pas"],
+            ["nothing.pas.pas"],
+            [b"no\xff\xfe.pas"],
+            ["--stop"],
+        ):
+            text, lines = self.explain(*words), self.explain("--json", *words)
+            self.assertTrue(lines)
+            self.assertEqual(self.text(lines), text, words)
+
+    def test_lines_that_are_no_messages(self):
+        told = b"pcom: not proved here (bin/prove proves it)\n1:1: possible error: index\n"
+        program = make_stand_in(self.folder, told)
+        lines = self.explain("--json", "silent.pas", program=program)
+        self.assertEqual(self.text(lines), self.explain("silent.pas", program=program))
+
+    def test_fields(self):
+        records = [json.loads(line) for line in self.explain("--json", "--why", "overflow.pas").splitlines()]
+        first = records[0]
+        wanted = {"kind": "possible error", "name": "overflow", "file": "overflow.pas", "line": 4, "column": 19}
+        self.assertEqual({key: first[key] for key in wanted}, wanted)
+        self.assertEqual(first["end_column"], 20)
+        self.assertEqual(first["known"], ["x lies in -2147483647..2147483647"])
+        self.assertTrue(first["means"] and first["mend"] and first["is_first"])
+        closed = [(one["line"], one["column"], one["name"]) for one in records if one["kind"] == "closed"]
+        sites, told = sites_and_lines(os.path.join(self.folder, "overflow.pas"), self.folder)
+        self.assertEqual(len(closed), len(sites) - len(told))
+        self.assertEqual(records[-1]["kinds"]["all"]["sites"], len(sites))
+
+
+class Sarif(RecordsCase):
+    def log(self, *words):
+        self.explain("--sarif", "a.sarif", *words)
+        return json.loads(taken(self.folder, "a.sarif"))
+
+    def results(self, *words):
+        (run,) = self.log(*words)["runs"]
+        rules = [rule["id"] for rule in run["tool"]["driver"]["rules"]]
+        for result in run["results"]:
+            self.assertEqual(rules[result["ruleIndex"]], result["ruleId"])
+        return run["results"]
+
+    def test_schema(self):
+        can_check = [DEBIANS, "-c", "import attr, sarif_om"]
+        if not os.path.exists(DEBIANS) or subprocess.run(can_check, stderr=subprocess.DEVNULL).returncode:
+            self.skipTest("Debian's python3-sarif-python-om isn't installed")
+        for words in (["overflow.pas"], ["silent.pas"], ["token.pas"], ["--go", "open.pas"], ["none.pas"]):
+            self.log(*words)
+            command = [DEBIANS, "-c", CHECK_SARIF, os.path.join(self.folder, "a.sarif")]
+            faults = subprocess.run(command, stdout=subprocess.PIPE, timeout=SECONDS, check=True).stdout
+            self.assertEqual(faults, b"", words)
+
+    def test_levels(self):
+        for words, levels in (
+            (["overflow.pas"], {("overflow", "warning"), ("division by zero", "warning")}),
+            (["silent.pas"], {("silent", "note")}),
+            (["token.pas"], {("P1", "error")}),
+            (["--go", "open.pas"], {("undefined variable", "warning"), ("undefined variable", "error")}),
+            (["none.pas"], {("cannot read", "error")}),
+        ):
+            self.assertEqual({(one["ruleId"], one["level"]) for one in self.results(*words)}, levels)
+
+    def test_places(self):
+        (result,) = self.results("open.pas")
+        place = result["locations"][0]["physicalLocation"]
+        # The letter of two bytes before it is one character.
+        self.assertEqual(place["region"], {"startLine": 4, "startColumn": 27, "endColumn": 28})
+        self.assertEqual(place["artifactLocation"], {"uri": "open.pas"})
+        put(self.folder, "a b\u00e9.pas", SOURCES["open"])
+        (result,) = self.results("a b\u00e9.pas")
+        uri = result["locations"][0]["physicalLocation"]["artifactLocation"]["uri"]
+        self.assertEqual(uri, "a%20b%C3%A9.pas")
+
+    def test_no_file(self):
+        said = self.explain("--sarif", "none/a.sarif", "silent.pas")
+        self.assertIn(b"explain: cannot write none/a.sarif: No such file or directory\n", said)
+
+
+class Marks(html.parser.HTMLParser):
+    """The text of the source that a page shows, and what is marked in it."""
+
+    def __init__(self):
+        super().__init__()
+        self.open, self.text, self.marks, self.is_source = [], "", [], False
+
+    def handle_starttag(self, tag, attributes):
+        self.is_source |= tag == "pre"
+        if tag == "span":
+            self.open.append(dict(attributes))
+            if self.open[-1]["class"] in ("told", "closed"):
+                self.marks.append([self.open[-1]["class"], "", self.open[-1]["title"]])
+
+    def handle_endtag(self, tag):
+        self.is_source &= tag != "pre"
+        if tag == "span":
+            self.open.pop()
+
+    def handle_data(self, data):
+        if not self.is_source or (self.open and self.open[-1]["class"] == "number"):
+            return
+        self.text += data
+        if self.open:
+            self.marks[-1][1] += data
+
+
+class Html(RecordsCase):
+    def page(self, *words):
+        self.explain("--html", "a.html", *words)
+        text = taken(self.folder, "a.html").decode()
+        marks = Marks()
+        marks.feed(text)
+        return text, marks
+
+    def test_source(self):
+        for name, source in SOURCES.items():
+            _, marks = self.page(f"{name}.pas")
+            self.assertEqual(marks.text.strip(), source.decode("utf-8", "replace").strip(), name)
+
+    def test_marks(self):
+        _, marks = self.page("--why", "overflow.pas")
+        told = [(text, title) for kind, text, title in marks.marks if kind == "told"]
+        self.assertEqual([text for text, _ in told], ["*", "+", "div"])
+        self.assertIn("possible error: overflow", told[0][1])
+        self.assertIn("x lies in -2147483647..2147483647", told[0][1])
+        sites, lines = sites_and_lines(os.path.join(self.folder, "overflow.pas"), self.folder)
+        places = {site[:2] for site in sites} - {line[:2] for line in lines}
+        self.assertEqual(sum(kind == "closed" for kind, _, _ in marks.marks), len(places))
+        self.assertTrue(all(title.startswith("closed: ") for kind, _, title in marks.marks if kind == "closed"))
+
+    def test_refusal(self):
+        text, marks = self.page("token.pas")
+        self.assertEqual([(kind, one) for kind, one, _ in marks.marks], [("told", "writeln")])
+        self.assertIn("expected ; or end, found writeln", text)
+
+    def test_nothing_is_fetched(self):
+        text, _ = self.page("overflow.pas")
+        self.assertNotRegex(text, r"https?:|src=|<link|<script|@import")
+
+
+class Colours(RecordsCase):
+    def on_a_terminal(self, *words, **variables):
+        """What a terminal gets of standard error."""
+        ours, theirs = pty.openpty()
+        command = [sys.executable, os.path.join(TOP, "bin", "explain"), *words]
+        environment = {**os.environ, "PCOM": PROGRAM, "TERM": "xterm", **variables}
+        if "NO_COLOR" not in variables:
+            environment.pop("NO_COLOR", None)
+        streams = {"stdin": subprocess.DEVNULL, "stdout": subprocess.DEVNULL, "stderr": theirs}
+        try:
+            subprocess.run(command, cwd=self.folder, env=environment, timeout=SECONDS, **streams)
+            return os.read(ours, 65536).decode().replace("\r\n", "\n")
+        finally:
+            os.close(ours)
+            os.close(theirs)
+
+    def test_colours(self):
+        plain = self.explain("open.pas").decode()
+        said = self.on_a_terminal("open.pas")
+        self.assertTrue(said.startswith("\033[1;33m4:28: possible error: undefined variable\033[0m\n"), said)
+        self.assertEqual(re.sub(r"\033\[[0-9;]*m", "", said), plain)
+        self.assertTrue(self.on_a_terminal("token.pas").startswith("\033[1;31m4:3: refused P1\033[0m\n"))
+
+    def test_no_colours(self):
+        plain = self.explain("open.pas").decode()
+        self.assertNotIn("\033", plain)
+        self.assertEqual(self.on_a_terminal("open.pas", NO_COLOR="1"), plain)
+        self.assertEqual(self.on_a_terminal("open.pas", TERM="dumb"), plain)
+
+
+if __name__ == "__main__":
+    unittest.main()
