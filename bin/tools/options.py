@@ -11,7 +11,7 @@ WITH_PATH = ("--cert", "--write-cert")
 
 
 # Those of bin/explain, and the fields that they set.
-FLAGS = {"--table": "table", "--json": "json"}
+FLAGS = {"--table": "table", "--json": "json", "--facts": "facts"}
 FILES = {"--html": "html", "--sarif": "sarif"}
 
 
@@ -23,6 +23,8 @@ class Options(NamedTuple):
     table: bool = False
     # Whether lines are objects.
     json: bool = False
+    # Whether the certificate is told in words.
+    facts: bool = False
     # The paths of a page and of a log.
     html: str = ""
     sarif: str = ""
