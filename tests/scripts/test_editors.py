@@ -1,5 +1,5 @@
-"""Tests of editors/: of the script that names the files, and of what vim, Emacs and VS Code make of its lines. vim and
-Emacs run without a screen."""
+"""Tests of editors/: of the script that names the files, and of what vim, Emacs, VS Code and a language server make of
+its lines. vim and Emacs run without a screen."""
 
 import json
 import os
@@ -8,7 +8,9 @@ import shutil
 import subprocess
 import sys
 import tempfile
+import threading
 import unittest
+from urllib.parse import quote
 
 from stand_in import make_stand_in, put, taken
 
@@ -195,6 +197,93 @@ class Emacs(EditorCase):
         self.stand_in([line for line, _ in PLACED])
         run = '(compile (concat (shell-quote-argument pcom-lines) " a\\\\ b.pas"))'
         self.assertEqual(self.next_errors(run, '"*compilation*"'), self.wanted())
+
+
+class Efm(EditorCase):
+    """What efm-langserver makes of it, as a client of the Language Server Protocol sees it."""
+
+    def setUp(self):
+        super().setUp()
+        server = self.command("efm-langserver")
+        with open(os.path.join(EDITORS, "efm", "config.yaml"), encoding="utf-8") as file:
+            config = file.read()
+        self.assertEqual(config.count('"CLONE/bin/pcom"'), 1)
+        self.config, self.server = config, server
+
+    def start(self):
+        path = put(self.folder, "config.yaml", self.config.replace("CLONE/bin/pcom", self.program).encode())
+        streams = {"stdin": subprocess.PIPE, "stdout": subprocess.PIPE, "stderr": subprocess.DEVNULL}
+        self.ran = subprocess.Popen([self.server, "-c", path], cwd=self.folder, **streams)
+        self.addCleanup(self.stop)
+        root = {"processId": None, "rootUri": f"file://{self.folder}", "capabilities": {}}
+        self.send(id=1, method="initialize", params=root)
+        self.receive()
+        self.send(method="initialized", params={})
+
+    def stop(self):
+        # No answer is waited for longer than a test may take.
+        self.timer.cancel()
+        self.ran.kill()
+        self.ran.wait()
+        self.ran.stdin.close()
+        self.ran.stdout.close()
+
+    def send(self, **message):
+        text = json.dumps({"jsonrpc": "2.0", **message}).encode()
+        self.ran.stdin.write(b"Content-Length: %d\r\n\r\n" % len(text) + text)
+        self.ran.stdin.flush()
+
+    def receive(self):
+        self.timer = threading.Timer(SECONDS, self.ran.kill)
+        self.timer.start()
+        length = 0
+        for line in iter(self.ran.stdout.readline, b"\r\n"):
+            self.assertTrue(line, "the server has ended")
+            name, _, value = line.partition(b":")
+            length = int(value) if name.lower() == b"content-length" else length
+        text = self.ran.stdout.read(length)
+        self.timer.cancel()
+        return json.loads(text)
+
+    def marked(self, name, text):
+        """What is marked in a file that is opened: line and column from 0, 1 for an error and 2 for a warning, text."""
+        put(self.folder, name, text)
+        uri = f"file://{quote(os.path.join(self.folder, name))}"
+        document = {"uri": uri, "languageId": "pascal", "version": 1, "text": text.decode()}
+        self.send(method="textDocument/didOpen", params={"textDocument": document})
+        return self.marks()
+
+    def changed(self, name, text):
+        """The same of a file that is open and gets another text, without being saved."""
+        document = {"uri": f"file://{quote(os.path.join(self.folder, name))}", "version": 2}
+        change = {"textDocument": document, "contentChanges": [{"text": text.decode()}]}
+        self.send(method="textDocument/didChange", params=change)
+        return self.marks()
+
+    def marks(self):
+        while True:
+            message = self.receive()
+            if message.get("method") == "textDocument/publishDiagnostics":
+                break
+        marks = message["params"]["diagnostics"]
+        return sorted((*it["range"]["start"].values(), it["severity"], it["message"]) for it in marks)
+
+    def test_program(self):
+        self.start()
+        self.assertEqual(self.marked(SOURCE, TEXT), [(3, 20, 2, "undefined variable")])
+        self.assertEqual(self.marked("b.pas", TEXT.replace(b"write(x", b"write(y")), [(3, 20, 1, "S3")])
+        self.assertEqual(self.marked("c.pas", TEXT.replace(b"write(x: 1)", b"x := 1")), [])
+        self.assertEqual(self.changed("c.pas", TEXT), [(3, 20, 2, "undefined variable")])
+
+    def test_places(self):
+        self.stand_in([line for line, _ in PLACED] + ["pcom: not proved here (bin/prove proves it)"])
+        self.start()
+        wanted = []
+        for line, is_warning in PLACED:
+            number, column, text = line.split(":", 2)
+            name = re.sub("^ (possible error: |error: |input: |(certificate )?refused )", "", text)
+            wanted.append((int(number) - 1, int(column) - 1, 2 if is_warning else 1, name))
+        self.assertEqual(self.marked(SOURCE, TEXT), sorted(wanted))
 
 
 class VsCode(EditorCase):
