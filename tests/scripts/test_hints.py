@@ -125,7 +125,7 @@ class Hints(unittest.TestCase):
 
     def test_once(self):
         said = self.said(f"{HEAD}  while n > x do begin x := x + 1; y := y + 1 end\nend.\n".encode())
-        self.assertEqual(said.count("A counter that nothing bounds"), 1)
+        self.assertEqual(said.count("How often a loop turns"), 1)
 
     def test_any_text(self):
         """No text breaks the search."""
