@@ -6,7 +6,7 @@ import subprocess
 import unittest
 
 TOP = os.path.dirname(os.path.dirname(os.path.dirname(os.path.abspath(__file__))))
-PROGRAM = os.path.abspath(os.environ.get("PCOM", os.path.join(TOP, "crates", "pcom", "out", "pcom")))
+PROGRAM = os.environ["PCOM"]
 SECONDS = 60
 PASCAL = re.compile(r"^```pascal\n(.*?)^```", re.M | re.S)
 

@@ -11,9 +11,7 @@ import unittest
 from concurrent.futures import ThreadPoolExecutor
 
 TOP = os.path.dirname(os.path.dirname(os.path.dirname(os.path.abspath(__file__))))
-PROGRAM = os.path.abspath(os.environ.get("PCOM", os.path.join(TOP, "crates", "pcom", "out", "pcom")))
-# What is asked here in this process is asked of the same program.
-os.environ["PCOM"] = PROGRAM
+PROGRAM = os.environ["PCOM"]
 sys.path[:0] = [os.path.join(TOP, "bin"), os.path.join(TOP, "tests")]
 
 from case_files import read_cases

@@ -10,7 +10,7 @@ import tempfile
 import unittest
 
 TOP = os.path.dirname(os.path.dirname(os.path.dirname(os.path.abspath(__file__))))
-PROGRAM = os.path.abspath(os.environ.get("PCOM", os.path.join(TOP, "crates", "pcom", "out", "pcom")))
+PROGRAM = os.environ["PCOM"]
 GALLERY = os.path.join(TOP, "examples", "gallery")
 PAGE = os.path.join(TOP, "docs", "GALLERY.md")
 SECONDS = 60

@@ -9,7 +9,7 @@ import tempfile
 import unittest
 
 TOP = os.path.dirname(os.path.dirname(os.path.dirname(os.path.abspath(__file__))))
-PROGRAM = os.path.abspath(os.environ.get("PCOM", os.path.join(TOP, "crates", "pcom", "out", "pcom")))
+PROGRAM = os.environ["PCOM"]
 FILE = os.path.join(TOP, "docs", "explanations.ini")
 SECONDS = 60
 HEAD = """program p(input, output);

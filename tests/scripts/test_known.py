@@ -13,9 +13,7 @@ import tempfile
 import unittest
 
 TOP = os.path.dirname(os.path.dirname(os.path.dirname(os.path.abspath(__file__))))
-PROGRAM = os.path.abspath(os.environ.get("PCOM", os.path.join(TOP, "crates", "pcom", "out", "pcom")))
-# What is asked here in this process is asked of the same program.
-os.environ["PCOM"] = PROGRAM
+PROGRAM = os.environ["PCOM"]
 sys.path.insert(0, os.path.join(TOP, "bin"))
 
 from pcom_lines import Files, message_of

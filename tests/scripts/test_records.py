@@ -15,7 +15,7 @@ import unittest
 from stand_in import make_stand_in, put, taken
 
 TOP = os.path.dirname(os.path.dirname(os.path.dirname(os.path.abspath(__file__))))
-PROGRAM = os.path.abspath(os.environ.get("PCOM", os.path.join(TOP, "crates", "pcom", "out", "pcom")))
+PROGRAM = os.environ["PCOM"]
 SECONDS = 60
 # Where Debian puts what it has for Python.
 DEBIANS = "/usr/bin/python3"

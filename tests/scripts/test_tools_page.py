@@ -8,7 +8,7 @@ import tempfile
 import unittest
 
 TOP = os.path.dirname(os.path.dirname(os.path.dirname(os.path.abspath(__file__))))
-PROGRAM = os.path.abspath(os.environ.get("PCOM", os.path.join(TOP, "crates", "pcom", "out", "pcom")))
+PROGRAM = os.environ["PCOM"]
 PAGE = os.path.join(TOP, "docs", "TOOLS.md")
 SECONDS = 60
 BLOCK = re.compile(r"^```(pascal|console)\n(.*?)^```", re.M | re.S)
