@@ -1,5 +1,5 @@
-//! Programs that measure and compare, by a first word: `bench RUNS` runs a code of 999,999 straight-line instructions so
-//! many times, `visits SOURCE ..` tells of each source what it takes to find its certificate, and
+//! A program that measures and compares, by its first word: `bench RUNS` runs a code of 999,999 straight-line
+//! instructions so many times, `visits SOURCE ..` tells of each source what it takes to find its certificate, and
 //! `pairs CODE CELLS BUDGET ..` compares the runs of a code with its prepared steps and without them.
 #![tactic(auto)]
 
