@@ -1,9 +1,9 @@
 //! Facts that others say as well.
 
-use certificate::{Fact, Path, Step};
+use certificate::Fact;
 use checker_loops::claims::rows_named;
 use checker_rows::Rows;
-use domain::facts::Bound;
+use domain::facts::{Bound, Path, Step};
 
 // How far a fact may stand from one that says it, in the order of facts.
 const NEAR: usize = 64;

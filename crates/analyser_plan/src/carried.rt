@@ -6,7 +6,7 @@ use crate::events::Event;
 use crate::memory::{number_of, row};
 use crate::parts::Array;
 use crate::program::Program;
-use cert_checker::visible::is_visible;
+use checker_calls::visible::is_visible;
 use typed_tree::tree::Passed;
 
 /// How often claims are carried to callers, and then to what they call.

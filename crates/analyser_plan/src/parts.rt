@@ -1,5 +1,5 @@
 use crate::memory::{Memory, number_of};
-use certificate::{Path, Step};
+use domain::facts::{Path, Step};
 use typed_tree::tree::{Access, Base, PathStep, Selector, Tree};
 use types::{TypeForm, TypeId, TypeTable};
 

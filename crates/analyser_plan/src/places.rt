@@ -4,8 +4,8 @@ use crate::claim::Claim;
 use crate::events::Event;
 use crate::memory::{row, settle};
 use crate::program::Program;
-use cert_checker::visible::{is_outward, is_value_parameter};
 use certificate::Fact;
+use checker_calls::visible::{is_outward, is_value_parameter};
 use checker_loops::pairs::Pairs;
 use domain::interval::Interval;
 

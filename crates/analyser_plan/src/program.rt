@@ -1,7 +1,7 @@
 use crate::events::{Event, events_of};
 use crate::memory::{Memory, number_of, row, settle};
 use crate::parts::{Part, all_parts};
-use cert_checker::visible::is_outward;
+use checker_calls::visible::is_outward;
 use checker_rows::Rows;
 use std::alloc::Global;
 use std::mem;

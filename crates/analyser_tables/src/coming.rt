@@ -1,10 +1,11 @@
-use certificate::{Fact, Path};
+use certificate::Fact;
 use checker_calls::actuals::{Bearers, Bindings, bearers_named};
 use checker_calls::entry::are_given;
 use checker_loops::claims::{gives_facts, rows_named};
 use checker_rows::Span;
 use checker_trail::State;
 use domain::Domain;
+use domain::facts::Path;
 use domain::interval::Interval;
 use std::slice;
 

@@ -1,11 +1,12 @@
 //! Ladders, and what becomes of the facts of a place where states come to it.
 
 use analyser_tables::{Coming, Ladders, Table};
-use certificate::{Fact, Path};
+use certificate::Fact;
 use checker_calls::actuals::{Actual, Bindings};
 use checker_rows::Rows;
 use checker_state::Order;
 use checker_trail::State;
+use domain::facts::Path;
 use domain::interval::Interval;
 use std::alloc::{AllocError, Global};
 use std::test::Fail;

@@ -29,9 +29,9 @@ use Rattle.checker_calls.proofs.Given.{AreOutward}
 use Rattle.checker_calls.proofs.Given as given
 use Rattle.checker_calls.proofs.Headings.{one-there}
 use Rattle.checker_calls.proofs.Parameters.{IsOutward}
-use Rattle.cert_checker.specs.Names.{block_is_known, bound_roots, exit_is_known, fact_is_known, fact_is_on, fact_roots}
-use Rattle.cert_checker.specs.Names.{has_parameter, is_changed_value, pair_is_known}
-use Rattle.cert_checker.specs.Names.{is_known, is_lasting, is_of_loops, is_outward, is_own_result, section_is_known}
+use Rattle.checker_calls.specs.Names.{block_is_known, bound_roots, exit_is_known, fact_is_known, fact_is_on, fact_roots}
+use Rattle.checker_calls.specs.Names.{has_parameter, is_changed_value, pair_is_known}
+use Rattle.checker_calls.specs.Names.{is_known, is_lasting, is_of_loops, is_outward, is_own_result, section_is_known}
 use Rattle.checker_expressions.proofs.Sound.{World}
 use Rattle.checker_expressions.proofs.CallLaws.{AreClaims}
 

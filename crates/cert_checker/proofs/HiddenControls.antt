@@ -17,7 +17,7 @@ use Rattle.checker_state.specs.Loops.{is_among}
 use Rattle.checker_loops.specs.Pairs.{aliases_of}
 use Rattle.checker_calls.proofs.Headings.{is-declared, one-there, well-placed}
 use Rattle.checker_calls.proofs.Places.{listed-pair}
-use Rattle.cert_checker.specs.Names.{has_parameter, is_outward, is_round_about, is_variable_parameter}
+use Rattle.checker_calls.specs.Names.{has_parameter, is_outward, is_round_about, is_variable_parameter}
 
 -- a pair is one of a block
 abbrev pub IsKnownPair : Tree → ℕ → ℕ → Type 0

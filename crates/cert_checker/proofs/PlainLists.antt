@@ -41,8 +41,8 @@ use Rattle.checker_calls.proofs.Callee.{parameter-listed}
 use Rattle.checker_calls.proofs.Headings.{callable-round, heading-at, is-declared, one-there, same-numbers, well-placed}
 use Rattle.checker_calls.proofs.Places.{pair-listed}
 use Rattle.checker_expressions.specs.Walk.{Context, may_change}
-use Rattle.cert_checker.specs.Names.{has_parameter, is_known, is_outward, is_round_about, is_variable_parameter, pair_is_known, section_is_known}
-use Rattle.cert_checker.specs.Plain.{HasNoFacts, IsOfRoutine, ListsAll, is_plain, is_plain_loop}
+use Rattle.checker_calls.specs.Names.{has_parameter, is_known, is_outward, is_round_about, is_variable_parameter, pair_is_known, section_is_known}
+use Rattle.checker_calls.specs.Plain.{HasNoFacts, IsOfRoutine, ListsAll, is_plain, is_plain_loop}
 use Rattle.cert_checker.specs.Walk.{first_context}
 use Rattle.cert_checker.proofs.ClaimsKnown.{ComesFrom, From, Nothing, comes-from, known-section}
 

@@ -37,7 +37,7 @@ use Rattle.checker_state.specs.Holds.{StateHolds}
 use Rattle.checker_expressions.proofs.Sound.{ErrsWithin, Meets, New, World, parts_in, sites_in}
 use Rattle.checker_expressions.proofs.CallLaws.{call-laws}
 use Rattle.checker_expressions.proofs.SoundCalls.{CallLaws}
-use Rattle.cert_checker.specs.Names.{block_is_known, claims_are_known, is_known, is_of_loops, section_is_known}
+use Rattle.checker_calls.specs.Names.{block_is_known, claims_are_known, is_known, is_of_loops, section_is_known}
 use Rattle.cert_checker.specs.Promise.{open_in, ClosedNeverErr, HoldsAt, StatesHold}
 use Rattle.cert_checker.specs.Walk.{program_walk}
 use Rattle.cert_checker.proofs.ClaimsKnown.{are-claims, pairs-known}

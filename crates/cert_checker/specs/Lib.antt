@@ -1,5 +1,4 @@
 pub mod Walk
-pub mod Names
 pub mod NamesView
 pub mod Promise
 pub mod Laws

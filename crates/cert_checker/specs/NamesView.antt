@@ -3,7 +3,7 @@ use Rattle.std.specs.Prelude.{ℕ, Bool, not, ◌&&◌}
 use Rattle.typed_tree.specs.declared.tree.Tree.{Tree}
 use Rattle.typed_tree.specs.WellFormed.{is_declared, is_value_kind, is_visible, outline_of}
 use Rattle.checker_state.specs.Loops.{is_among}
-use Rattle.cert_checker.specs.Names.{is_outward}
+use Rattle.checker_calls.specs.Names.{is_outward}
 use Rattle.cert_checker.specs.declared.names.Nameable.{Nameable}
 use Rattle.cert_checker.specs.declared.names.Nameable.TheVariants.{Visible, Outward, Lasting}
 

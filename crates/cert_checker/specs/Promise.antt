@@ -17,7 +17,7 @@ use Rattle.meaning.specs.Store.{Environment, Place, stored}
 use Rattle.checker_state.specs.State.{State}
 use Rattle.checker_expressions.specs.declared.fault.CheckFault.{CheckFault}
 use Rattle.checker_expressions.specs.declared.fault.CheckFault.TheVariants.{Memory, Foreign, Broken}
-use Rattle.cert_checker.specs.Names.{is_known}
+use Rattle.checker_calls.specs.Names.{is_known}
 use Rattle.checker_expressions.specs.Visits.{moment_of, visits_of}
 use Rattle.checker_expressions.specs.Walk.{Context, IsBreachOf, Linked, numbers_of}
 use Rattle.cert_checker.specs.Walk.{block_walk, program_walk}

@@ -18,7 +18,6 @@ pub mod program;
 mod reached;
 mod reads;
 mod stores;
-pub mod visible;
 pub mod walk;
 
 use certificate::Certificate;

@@ -3,19 +3,19 @@
 ghost use Rattle.std.specs.Prelude.{◌≡◌, true, if◌then◌else◌, nat_eq, slice_get};
 ghost use Rattle.std.specs.List.{list_all};
 ghost use Rattle.types.specs.Types.{is_scalar};
-ghost use Rattle.cert_checker.specs.Names.{block_is_known, bound_is_known, bound_roots, claims_are_known};
-ghost use Rattle.cert_checker.specs.Names.{exit_is_known, fact_is_known, fact_is_on, fact_roots, has_parameter};
-ghost use Rattle.cert_checker.specs.Names.{is_array, is_known};
-ghost use Rattle.cert_checker.specs.Names.{is_of_loops, is_own_result, is_round_about, names, pair_is_known};
-ghost use Rattle.cert_checker.specs.Names.{section_is_known, stands_in};
+ghost use Rattle.checker_calls.specs.Names.{block_is_known, bound_is_known, bound_roots, claims_are_known};
+ghost use Rattle.checker_calls.specs.Names.{exit_is_known, fact_is_known, fact_is_on, fact_roots, has_parameter};
+ghost use Rattle.checker_calls.specs.Names.{is_array, is_known};
+ghost use Rattle.checker_calls.specs.Names.{is_of_loops, is_own_result, is_round_about, names, pair_is_known};
+ghost use Rattle.checker_calls.specs.Names.{section_is_known, stands_in};
 ghost use Rattle.cert_checker.specs.NamesView.{may_name};
 
-use crate::visible::{
+use certificate::{AliasPair, Certificate, Fact, LoopClaims, Section};
+use checker_calls::visible::{
     is_outward, is_result, is_value_parameter, is_variable_parameter, is_visible,
 };
-use certificate::{AliasPair, Certificate, Fact, LoopClaims, Path, Section};
 use checker_rows::Rows;
-use domain::facts::Bound;
+use domain::facts::{Bound, Path};
 use typed_tree::tree::Tree;
 use types::{TypeForm, TypeId, TypeTable};
 

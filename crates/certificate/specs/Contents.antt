@@ -8,15 +8,12 @@ use Rattle.std.specs.declared.cmp.Ordering.{Ordering}
 use Rattle.std.specs.Ordering.{is_lt, int_eq, nat_cmp, ordering_then}
 use Rattle.std.specs.declared.cmp.Ordering.TheVariants.{Equal}
 use Rattle.domain.specs.Facts.{Step, Path, Bound, Elements, Field, Number, Plus, Range, Defined, Stretch, Order}
-use Rattle.domain.specs.Facts.{Fact as VariableFact, said_bound, subject_order}
+use Rattle.domain.specs.Facts.{Fact as VariableFact, said_bound, said_path, subject_order}
 use Rattle.domain.specs.Interval.{Interval}
 use Rattle.certificate.specs.declared.AliasPair.{AliasPair}
 use Rattle.certificate.specs.declared.Certificate.{Certificate}
 use Rattle.certificate.specs.declared.Section.{Section as KeptSection}
 use Rattle.certificate.specs.declared.LoopClaims.{LoopClaims as KeptLoop}
-use Rattle.certificate.specs.declared.facts.Step.{Step as KeptStep}
-use Rattle.certificate.specs.declared.facts.Step.TheVariants as kept_step
-use Rattle.certificate.specs.declared.facts.Path.{Path as KeptPath}
 use Rattle.certificate.specs.declared.facts.Fact.{Fact as KeptFact}
 use Rattle.certificate.specs.declared.facts.Fact.TheVariants as kept
 use Rattle.certificate.specs.declared.Version.{Version}
@@ -44,13 +41,6 @@ pub record Section : Type 0 where
   pub loops : List LoopClaims
 
 -- what a certificate says, wherever it lies in memory
-abbrev pub said_step : KeptStep → Step
-said_step kept_step.Element = Elements
-said_step (kept_step.Field name) = Field name.items
-
-abbrev pub said_path : KeptPath → Path
-said_path path = record { root = path.root; steps = map said_step path.steps.items }
-
 abbrev pub said_fact : KeptFact → VariableFact
 said_fact (kept.Range path range) = Range (said_path path) range
 said_fact (kept.Defined path) = Defined (said_path path)

@@ -1,28 +1,10 @@
-ghost use Rattle.std.specs.Prelude.{◌≡◌, map};
-ghost use Rattle.std.specs.Cmp.Lexicographic.{slice_cmp};
-ghost use Rattle.domain.specs.Facts.{path_order, rank, step_order, subject_order};
-ghost use Rattle.certificate.specs.Contents.{said_fact, said_path, said_step};
+ghost use Rattle.std.specs.Prelude.{◌≡◌};
+ghost use Rattle.domain.specs.Facts.{rank, subject_order};
+ghost use Rattle.certificate.specs.Contents.{said_fact};
 
-use domain::facts::Bound;
+use domain::facts::{Bound, Path};
 use domain::interval::Interval;
 use std::cmp::Ordering;
-
-/// A step of a path.
-#[derive(Drop)]
-pub enum Step {
-    /// To all elements of an array (ISO 7185:1990, 6.5.3.2).
-    Element,
-    /// To the field of a record (6.5.3.3), by its name in small letters.
-    Field { name: Vec<u8> },
-}
-
-/// The way to a part of a variable, or to a part of each of its elements.
-#[derive(Drop)]
-pub struct Path {
-    /// The root number of the variable, at most 999,999.
-    pub root: u32,
-    pub steps: Vec<Step>,
-}
 
 /// A fact that a certificate claims. The numbers of its bounds are between -2147483647 and 2147483647.
 #[derive(Drop)]
@@ -49,31 +31,6 @@ pub enum Fact {
         other: u32,
         number: i32,
     },
-}
-
-impl Step {
-    /// How the step stands to another: all elements before fields, and fields by their names.
-    fn compare(&self, other: &Step) -> Ordering
-        ensures { result ≡ step_order (said_step self.now) (said_step other.now) }
-    {
-        match (self, other) {
-            (Step::Element, Step::Element) => Ordering::Equal,
-            (Step::Element, Step::Field { .. }) => Ordering::Less,
-            (Step::Field { .. }, Step::Element) => Ordering::Greater,
-            (Step::Field { name: a }, Step::Field { name: b }) => a.as_slice().cmp(b.as_slice()),
-        }
-    }
-}
-
-impl Path {
-    /// How the path stands to another in the order of paths: by their variables, and then step by step.
-    fn compare(&self, other: &Path) -> Ordering
-        ensures { result ≡ path_order (said_path self.now) (said_path other.now) }
-    {
-        self.root
-            .cmp(&other.root)
-            .then(compare_steps(&self.steps, &other.steps))
-    }
 }
 
 impl Fact {
@@ -122,25 +79,5 @@ impl Fact {
             Fact::Stretch { .. } => 2,
             Fact::Order { .. } => 3,
         }
-    }
-}
-
-/// How steps stand to others: the first ones that differ decide, and then which end first.
-fn compare_steps(steps: &[Step], others: &[Step]) -> Ordering
-    ensures { result ≡ slice_cmp step_order (map said_step steps.now) (map said_step others.now) }
-{
-    for (place, step) in steps.iter().enumerate() {
-        let Some(other) = others.get(place) else {
-            return Ordering::Greater;
-        };
-        let order = step.compare(other);
-        if order.is_ne() {
-            return order;
-        }
-    }
-    if steps.len() < others.len() {
-        Ordering::Less
-    } else {
-        Ordering::Equal
     }
 }

@@ -13,7 +13,7 @@ pub mod reader;
 mod words;
 pub mod writer;
 
-pub use facts::{Fact, Path, Step};
+pub use facts::Fact;
 pub use reader::read;
 pub use writer::write;
 

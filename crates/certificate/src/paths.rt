@@ -2,14 +2,13 @@ ghost use Rattle.std.specs.Prelude.{◌≡◌, ◌∷◌, ◌<◌, ◌≤◌, []
 ghost use Rattle.std.specs.Cmp.Lexicographic.{slice_cmp};
 ghost use Rattle.std.specs.List.{list_all, position_or_len};
 ghost use Rattle.std.specs.Result.{result_map_both};
-ghost use Rattle.domain.specs.Facts.{path_order, step_order};
+ghost use Rattle.domain.specs.Facts.{path_order, said_path, said_step, step_order};
 ghost use Rattle.certificate.specs.Building.{pieces, steps_in, word_path};
-ghost use Rattle.certificate.specs.Contents.{said_path, said_step};
 ghost use Rattle.certificate.specs.Paths.{begins_step, is_name, is_name_byte, is_piece, step_in};
 ghost use Rattle.certificate.specs.Paths as spec;
 
-use crate::facts::{Path, Step};
 use crate::words::{LineFault, variable_of};
+use domain::facts::{Path, Step};
 use std::alloc::{AllocError, Global};
 use std::cmp::Ordering;
 

@@ -2,20 +2,20 @@
 ghost use Rattle.std.specs.Prelude.{◌≡◌, [], ◌++◌, IfOk, IsTrue, decimal, map};
 ghost use Rattle.std.specs.Fmt.{signed_decimal};
 ghost use Rattle.std.specs.List.{flat_map};
-ghost use Rattle.domain.specs.Facts.{said_bound};
+ghost use Rattle.domain.specs.Facts.{said_bound, said_path, said_step};
 ghost use Rattle.certificate.specs.Bounds.{bound_words, offset};
 ghost use Rattle.certificate.specs.Contents.{IsReadAs, Spells, are_in_order, contents, ended, loop_of, said_fact};
-ghost use Rattle.certificate.specs.Contents.{said_path, said_step, section_of, spelling};
+ghost use Rattle.certificate.specs.Contents.{section_of, spelling};
 ghost use Rattle.certificate.specs.Lines.{fact_words};
 ghost use Rattle.certificate.specs.Paths.{path_words, step_words};
 ghost use Rattle.certificate.specs.Words.{variable};
 ghost use Rattle.certificate.specs.Writing.{Appends, alias_line, change_line, fact_line, loop_text, section_text};
 
-use crate::facts::{Fact, Path, Step};
+use crate::facts::Fact;
 use crate::fault::ReadFault;
 use crate::reader::read;
 use crate::{AliasPair, Certificate, LoopClaims, Section, Version};
-use domain::facts::Bound;
+use domain::facts::{Bound, Path, Step};
 use itoa::Buffer;
 use std::alloc::{AllocError, Global};
 

@@ -5,3 +5,5 @@ pub mod View
 pub mod Overlaps
 pub mod Exit
 pub mod ExitView
+pub mod Names
+pub mod Plain

@@ -1,5 +1,5 @@
 ghost use Rattle.std.specs.Prelude.{◌≡◌, drop, map, take};
-ghost use Rattle.certificate.specs.Contents.{said_path};
+ghost use Rattle.domain.specs.Facts.{said_path};
 ghost use Rattle.checker_rows.specs.Rows.{is_variable_row};
 ghost use Rattle.checker_rows.specs.View.{numbers};
 ghost use Rattle.checker_state.specs.Loops.{is_among};
@@ -9,10 +9,10 @@ ghost use Rattle.checker_calls.specs.Actuals.{actual_of, after_call, all_of_rows
 ghost use Rattle.checker_calls.specs.Actuals.{bearers_of, settled, unknown_index, unknown_reach};
 ghost use Rattle.checker_calls.specs.View.{said_actual, said_bearers, said_bindings, said_found};
 
-use certificate::Path;
 use checker_loops::claims::rows_named;
 use checker_rows::{Rows, Span};
 use checker_state::{Bound, Index, Indexes, Reach};
+use domain::facts::Path;
 use domain::interval::Interval;
 use std::slice;
 use typed_tree::tree::Access;

@@ -10,4 +10,5 @@ mod limits;
 pub mod overlaps;
 mod ranges;
 mod touches;
+pub mod visible;
 mod ways;

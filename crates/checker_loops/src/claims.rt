@@ -1,6 +1,7 @@
 ghost use Rattle.std.specs.Prelude.{◌≡◌, map};
+ghost use Rattle.domain.specs.Facts.{said_path};
 ghost use Rattle.domain.specs.Facts as fact;
-ghost use Rattle.certificate.specs.Contents.{said_fact, said_path};
+ghost use Rattle.certificate.specs.Contents.{said_fact};
 ghost use Rattle.checker_rows.specs.View.{numbers};
 ghost use Rattle.checker_state.specs.Loops.{gives_all, with_claims};
 ghost use Rattle.checker_state.specs.State.{table_of};
@@ -9,11 +10,11 @@ ghost use Rattle.checker_trail.specs.Trail.{Moves, seen};
 ghost use Rattle.checker_loops.specs.Loops.{all_said, gives_claims, rows_named, said, said_bound, stretch_of};
 ghost use Rattle.checker_loops.specs.View.{claim_at, rows_said};
 
-use certificate::{Fact, Path};
+use certificate::Fact;
 use checker_rows::{Rows, Span};
 use checker_state::{Bound, Claim, Held, Order, Stretch};
 use checker_trail::{State, all_of_row};
-use domain::facts;
+use domain::facts::{self, Path};
 
 /// What a certificate claims is known from here on.
 pub fn claim_facts(state: &mut State, facts: &[Fact])

@@ -1,7 +1,7 @@
 -- Paths, bounds and facts: what may be said of the variables at a point of a program (ISO 7185:1990, 6.5.1: a variable
 -- is undefined or has a value), and the order in which facts are listed, each once. It does not say what a fact means
 -- of a run.
-use Rattle.std.specs.Prelude.{ℕ, ℤ, List}
+use Rattle.std.specs.Prelude.{ℕ, ℤ, List, map}
 use Rattle.std.specs.Cmp.Lexicographic.{slice_cmp}
 use Rattle.std.specs.declared.cmp.Ordering.{Ordering}
 use Rattle.std.specs.declared.cmp.Ordering.TheVariants.{Less, Equal, Greater}
@@ -9,6 +9,9 @@ use Rattle.std.specs.Ordering.{int_cmp, nat_cmp, ordering_then}
 use Rattle.domain.specs.Interval.{Interval}
 use Rattle.domain.specs.declared.facts.Bound.{Bound as KeptBound}
 use Rattle.domain.specs.declared.facts.Bound.TheVariants as kept
+use Rattle.domain.specs.declared.facts.Path.{Path as KeptPath}
+use Rattle.domain.specs.declared.facts.Step.{Step as KeptStep}
+use Rattle.domain.specs.declared.facts.Step.TheVariants as kept_step
 
 -- a step of a path: to all elements of an array, or to the field of a name
 pub data Step : Type 0 where
@@ -71,6 +74,14 @@ subject_order (Order a b m) (Order c d n) = ordering_then (nat_cmp a c) (nat_cmp
 subject_order f g = nat_cmp (rank f) (rank g)
 
 -- ---- as programs keep them
+
+-- what a path says
+abbrev pub said_step : KeptStep → Step
+said_step kept_step.Element = Elements
+said_step (kept_step.Field name) = Field name.items
+
+abbrev pub said_path : KeptPath → Path
+said_path path = record { root = path.root; steps = map said_step path.steps.items }
 
 -- what a bound says
 abbrev pub said_bound : KeptBound → Bound

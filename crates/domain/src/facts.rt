@@ -1,13 +1,56 @@
-ghost use Rattle.std.specs.Prelude.{◌≡◌};
-ghost use Rattle.domain.specs.Facts.{bound_order, said_bound};
+ghost use Rattle.std.specs.Prelude.{◌≡◌, map};
+ghost use Rattle.std.specs.Cmp.Lexicographic.{slice_cmp};
+ghost use Rattle.domain.specs.Facts.{bound_order, path_order, said_bound, said_path, said_step, step_order};
 
 use std::cmp::Ordering;
+
+/// A step of a path.
+#[derive(Drop)]
+pub enum Step {
+    /// To all elements of an array (ISO 7185:1990, 6.5.3.2).
+    Element,
+    /// To the field of a record (6.5.3.3), by its name in small letters.
+    Field { name: Vec<u8> },
+}
+
+/// The way to a part of a variable, or to a part of each of its elements.
+#[derive(Drop)]
+pub struct Path {
+    /// The root number of the variable, at most 999,999.
+    pub root: u32,
+    pub steps: Vec<Step>,
+}
 
 /// A number, or the value of a variable, which is told by its root number, plus a number.
 #[derive(Clone, Copy)]
 pub enum Bound {
     Number(i32),
     Plus { root: u32, number: i32 },
+}
+
+impl Step {
+    /// How the step stands to another: all elements before fields, and fields by their names.
+    fn compare(&self, other: &Step) -> Ordering
+        ensures { result ≡ step_order (said_step self.now) (said_step other.now) }
+    {
+        match (self, other) {
+            (Step::Element, Step::Element) => Ordering::Equal,
+            (Step::Element, Step::Field { .. }) => Ordering::Less,
+            (Step::Field { .. }, Step::Element) => Ordering::Greater,
+            (Step::Field { name: a }, Step::Field { name: b }) => a.as_slice().cmp(b.as_slice()),
+        }
+    }
+}
+
+impl Path {
+    /// How the path stands to another in the order of paths: by their variables, and then step by step.
+    pub fn compare(&self, other: &Path) -> Ordering
+        ensures { result ≡ path_order (said_path self.now) (said_path other.now) }
+    {
+        self.root
+            .cmp(&other.root)
+            .then(compare_steps(&self.steps, &other.steps))
+    }
 }
 
 impl Bound {
@@ -23,5 +66,25 @@ impl Bound {
                 v.cmp(w).then(a.cmp(b))
             }
         }
+    }
+}
+
+/// How steps stand to others: the first ones that differ decide, and then which end first.
+fn compare_steps(steps: &[Step], others: &[Step]) -> Ordering
+    ensures { result ≡ slice_cmp step_order (map said_step steps.now) (map said_step others.now) }
+{
+    for (place, step) in steps.iter().enumerate() {
+        let Some(other) = others.get(place) else {
+            return Ordering::Greater;
+        };
+        let order = step.compare(other);
+        if order.is_ne() {
+            return order;
+        }
+    }
+    if steps.len() < others.len() {
+        Ordering::Less
+    } else {
+        Ordering::Equal
     }
 }

@@ -20,9 +20,9 @@ use Rattle.certificate.specs.Contents.{LoopClaims, Section, contents, is_empty, 
 use Rattle.checker_loops.specs.Loops.{claims_of, found_among, found_in, or_else}
 use Rattle.checker_loops.specs.Sections.{all_pairs, block_claims_in, pair_of}
 use Rattle.checker_loops.proofs.Lists.{contains-more, filtered, in-flat, in-map, of-flat, of-map}
-use Rattle.cert_checker.specs.Names.{block_is_known, claims_are_known, exit_is_known, fact_is_on, has_parameter, is_known, is_of_loops, is_outward}
-use Rattle.cert_checker.specs.Names.{is_round_about, is_variable_parameter, pair_is_known, section_is_known, stands_in}
-use Rattle.cert_checker.specs.Plain.{HasNoFacts, IsOfRoutine, ListsAll, is_plain, is_plain_loop}
+use Rattle.checker_calls.specs.Names.{block_is_known, claims_are_known, exit_is_known, fact_is_on, has_parameter, is_known, is_of_loops, is_outward}
+use Rattle.checker_calls.specs.Names.{is_round_about, is_variable_parameter, pair_is_known, section_is_known, stands_in}
+use Rattle.checker_calls.specs.Plain.{HasNoFacts, IsOfRoutine, ListsAll, is_plain, is_plain_loop}
 use Rattle.plain_certificate.specs.Widest.{block_loops, block_pairs, is_vacant, loop_with, loops_of, loops_with, may_pair, outward_roots, paired_roots}
 use Rattle.plain_certificate.specs.Widest.{pairs_of, parameters_of, roots_where, section_of, visible_roots, widest}
 use Rattle.plain_certificate.proofs.Items.{all-from, in-filter, in-range, is-less}

@@ -16,7 +16,7 @@ use Rattle.certificate.specs.Contents.{is_loop, is_right, is_section, is_small, 
 use Rattle.certificate.specs.Lines.{Alias, Change, Claim}
 use Rattle.typed_tree.specs.declared.tree.Tree.{Tree}
 use Rattle.typed_tree.specs.WellFormed.{is_visible, outline_of}
-use Rattle.cert_checker.specs.Names.{is_outward, is_variable_parameter, stands_in}
+use Rattle.checker_calls.specs.Names.{is_outward, is_variable_parameter, stands_in}
 use Rattle.plain_certificate.specs.Widest.{HasNumbers, HasNumbersFor, block_pairs, is_vacant, loop_with, loops_of, loops_with, may_pair, outward_roots}
 use Rattle.plain_certificate.specs.Widest.{paired_roots, parameters_of, roots_where, section_of, visible_roots, widest}
 use Rattle.plain_certificate.proofs.Ascending.{ascends, begun, earlier, joined, kept, kept-made, made, right-too, up-from}

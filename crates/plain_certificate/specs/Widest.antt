@@ -9,7 +9,7 @@ use Rattle.typed_tree.specs.WellFormed.{is_visible, outline_of}
 use Rattle.certificate.specs.declared.AliasPair.{AliasPair}
 use Rattle.certificate.specs.Contents.{LoopClaims, Section, is_empty}
 use Rattle.certificate.specs.Words.{most}
-use Rattle.cert_checker.specs.Names.{is_outward, is_round_about, is_variable_parameter, stands_in}
+use Rattle.checker_calls.specs.Names.{is_outward, is_round_about, is_variable_parameter, stands_in}
 
 -- a certificate has a number for each of so many, the first of which is 0
 abbrev pub HasNumbersFor : ℕ → Type 0

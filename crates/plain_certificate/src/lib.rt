@@ -3,8 +3,8 @@
 
 ghost use Rattle.std.specs.Prelude.{◌≡◌, IfOk, true};
 ghost use Rattle.certificate.specs.Contents.{are_in_order, contents};
-ghost use Rattle.cert_checker.specs.Names.{is_known};
-ghost use Rattle.cert_checker.specs.Plain.{HasNoFacts, ListsAll};
+ghost use Rattle.checker_calls.specs.Names.{is_known};
+ghost use Rattle.checker_calls.specs.Plain.{HasNoFacts, ListsAll};
 
 mod loops;
 mod pairs;

@@ -2,7 +2,7 @@
 ghost use Rattle.std.specs.Prelude.{◌≡◌, IfOk, map};
 ghost use Rattle.certificate.specs.Contents.{loop_of};
 ghost use Rattle.plain_certificate.specs.Widest.{block_loops, loop_with, loops_of, loops_with};
-ghost use Rattle.cert_checker.specs.Names.{stands_in};
+ghost use Rattle.checker_calls.specs.Names.{stands_in};
 ghost use Rattle.std.specs.Prelude.{slice_get};
 
 use crate::roots::{count, visible_roots};

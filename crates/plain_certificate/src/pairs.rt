@@ -3,8 +3,8 @@ ghost use Rattle.std.specs.Prelude.{◌≡◌, ◌++◌, IfOk, OnOk};
 ghost use Rattle.plain_certificate.specs.Widest.{block_pairs, pairs_with};
 
 use crate::roots::{paired_roots, parameters_of};
-use cert_checker::visible::is_variable_parameter;
 use certificate::AliasPair;
+use checker_calls::visible::is_variable_parameter;
 use std::alloc::{AllocError, Global};
 use typed_tree::tree::Tree;
 

@@ -3,7 +3,7 @@ ghost use Rattle.std.specs.Prelude.{◌≡◌, IfOk, OnOk};
 ghost use Rattle.plain_certificate.specs.Widest.{outward_roots, paired_roots, parameters_of, visible_roots};
 ghost use Rattle.plain_certificate.specs.Widest.{HasNumbers, HasNumbersFor, may_pair};
 
-use cert_checker::visible::{
+use checker_calls::visible::{
     is_outward, is_result, is_value_parameter, is_variable_parameter, is_visible,
 };
 use std::alloc::{AllocError, Global};

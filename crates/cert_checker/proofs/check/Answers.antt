@@ -3,7 +3,7 @@ use Rattle.typed_tree.specs.declared.tree.Tree.{Tree}
 use Rattle.typed_tree.specs.declared.site.Site.{Site}
 use Rattle.typed_tree.specs.Entries.{entries_of}
 use Rattle.certificate.specs.declared.Certificate.{Certificate}
-use Rattle.cert_checker.specs.Names.{is_known}
+use Rattle.checker_calls.specs.Names.{is_known}
 use Rattle.cert_checker.specs.Promise.{open_in}
 use Rattle.cert_checker.specs.Walk.{program_walk}
 use Rattle.cert_checker.proofs.EffectsRoutines.{calls-change-what-they-list}

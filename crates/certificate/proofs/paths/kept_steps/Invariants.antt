@@ -1,6 +1,6 @@
 use Rattle.std.proofs.Common.{◌≡◌, ◌++◌, length, map}
+use Rattle.domain.specs.Facts.{said_step}
 use Rattle.certificate.specs.Building.{steps_in}
-use Rattle.certificate.specs.Contents.{said_step}
 use Rattle.certificate.proofs.paths.kept_steps.Given as goal
 
 abbrev pub invariant-loop-piece : goal.invariant-loop-piece

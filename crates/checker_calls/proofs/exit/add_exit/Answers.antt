@@ -1,7 +1,7 @@
 use Rattle.std.proofs.Common.{◌∙◌, sym, ap, ap₂, ℕ, List, Option}
 use Rattle.certificate.specs.declared.facts.Fact.{Fact}
-use Rattle.certificate.specs.Contents.{said_fact, said_path}
-use Rattle.domain.specs.Facts.{said_bound}
+use Rattle.certificate.specs.Contents.{said_fact}
+use Rattle.domain.specs.Facts.{said_bound, said_path}
 use Rattle.checker_state.specs.Bounds.{Bound}
 use Rattle.checker_rows.specs.View.{numbers}
 use Rattle.checker_trail.specs.Trail.{seen}

@@ -2,7 +2,7 @@ use Rattle.std.proofs.Common.{◌∙◌, sym, ap, ap₂}
 use Rattle.std.specs.List.{range_with_len}
 use Rattle.std.specs.Prelude.{slice_get}
 use Rattle.typed_tree.specs.declared.tree.Tree.{Tree}
-use Rattle.certificate.specs.Contents.{said_path}
+use Rattle.domain.specs.Facts.{said_path}
 use Rattle.checker_rows.specs.View.{numbers}
 use Rattle.checker_state.specs.View.{said_reach}
 use Rattle.checker_calls.specs.Exit.{is_own_path}

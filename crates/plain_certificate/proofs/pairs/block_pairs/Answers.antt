@@ -1,7 +1,7 @@
 use Rattle.std.proofs.Common.{◌≡◌, ◌∙◌, sym, ap, subst, get_or, length, if◌then◌else◌, ◌<◌, ◌++◌}
 use Rattle.plain_certificate.proofs.Items.{flat-more}
 use Rattle.plain_certificate.specs.Widest.{paired_roots, pairs_of, pairs_with, parameters_of}
-use Rattle.cert_checker.specs.Names.{is_variable_parameter}
+use Rattle.checker_calls.specs.Names.{is_variable_parameter}
 use Rattle.plain_certificate.proofs.pairs.block_pairs.Goals.{then-is_variable_parameter, else-is_variable_parameter}
 use Rattle.plain_certificate.proofs.pairs.block_pairs.Goals as goal
 

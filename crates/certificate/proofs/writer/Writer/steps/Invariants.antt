@@ -1,6 +1,6 @@
 use Rattle.std.proofs.Common.{map, take}
 use Rattle.std.specs.List.{flat_map}
-use Rattle.certificate.specs.Contents.{said_step}
+use Rattle.domain.specs.Facts.{said_step}
 use Rattle.certificate.specs.Paths.{step_words}
 use Rattle.certificate.specs.Writing.{Appends}
 use Rattle.certificate.proofs.writer.Writer.steps.Given as goal

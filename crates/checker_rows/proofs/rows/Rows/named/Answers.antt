@@ -5,8 +5,8 @@ use Rattle.types.specs.Types.{element_of, field_of}
 use Rattle.typed_tree.specs.declared.tree.Tree.{Tree}
 use Rattle.typed_tree.specs.declared.tree.Variable.{Variable}
 use Rattle.domain.specs.Facts as fact
-use Rattle.certificate.specs.Contents.{said_path, said_step}
-use Rattle.certificate.specs.declared.facts.Step.{Step}
+use Rattle.domain.specs.Facts.{said_path, said_step}
+use Rattle.domain.specs.declared.facts.Step.{Step}
 use Rattle.checker_rows.specs.Rows.{variable_named}
 use Rattle.checker_rows.specs.View.{end_of}
 use Rattle.checker_rows.proofs.Naming.{NamesOn, element_on, field_on, named_all}

@@ -1,5 +1,5 @@
 use Rattle.std.proofs.Common.{◌<◌, ◌^◌, drop, map}
-use Rattle.certificate.specs.Contents.{said_path, said_step}
+use Rattle.domain.specs.Facts.{said_path, said_step}
 use Rattle.checker_rows.specs.View.{end_of}
 use Rattle.checker_rows.proofs.Naming.{NamesOn}
 use Rattle.checker_rows.proofs.rows.Rows.named.Given as goal

@@ -15,12 +15,13 @@ use Rattle.types.specs.Types.{form_at, is_scalar}
 use Rattle.types.specs.declared.form.TypeId.{TypeId}
 use Rattle.domain.specs.declared.facts.Bound.{Bound}
 use Rattle.domain.specs.declared.facts.Bound.TheVariants.{Number, Plus}
+use Rattle.domain.specs.declared.facts.Path.{Path}
+use Rattle.domain.specs.Facts.{said_path}
 use Rattle.checker_rows.specs.Rows.{Named, is_ordinal_variable, part_named}
-use Rattle.certificate.specs.Contents.{is_empty, said_path}
+use Rattle.certificate.specs.Contents.{is_empty}
 use Rattle.certificate.specs.declared.Certificate.{Certificate}
 use Rattle.certificate.specs.declared.LoopClaims.{LoopClaims}
 use Rattle.certificate.specs.declared.Section.{Section}
-use Rattle.certificate.specs.declared.facts.Path.{Path}
 use Rattle.certificate.specs.declared.facts.Fact.{Fact}
 use Rattle.certificate.specs.declared.facts.Fact.TheVariants.{Range, Defined, Stretch, Order}
 

@@ -3,7 +3,7 @@ ghost use Rattle.std.specs.Prelude.{◌≡◌, Bool};
 ghost use Rattle.typed_tree.specs.WellFormed.{is_declared, is_result_kind, is_round, is_value_kind, is_visible};
 ghost use Rattle.typed_tree.specs.WellFormed.{of_one, outline_of};
 ghost use Rattle.typed_tree.specs.declared.tree.VariableKind.{VariableKind};
-ghost use Rattle.cert_checker.specs.Names.{is_outward, is_variable_parameter};
+ghost use Rattle.checker_calls.specs.Names.{is_outward, is_variable_parameter};
 
 use typed_tree::tree::{Tree, VariableKind};
 

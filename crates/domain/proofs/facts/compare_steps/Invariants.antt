@@ -1,8 +1,7 @@
 use Rattle.std.proofs.Common.{◌≡◌, ◌≤◌, drop, length, map}
 use Rattle.std.specs.Cmp.Lexicographic.{slice_cmp}
-use Rattle.domain.specs.Facts.{step_order}
-use Rattle.certificate.specs.Contents.{said_step}
-use Rattle.certificate.proofs.facts.compare_steps.Given as goal
+use Rattle.domain.specs.Facts.{said_step, step_order}
+use Rattle.domain.proofs.facts.compare_steps.Given as goal
 
 -- the steps so far are the same
 abbrev pub invariant-loop-place : goal.invariant-loop-place

@@ -2,11 +2,10 @@ use Rattle.std.proofs.Common.{◌≡◌, ◌<◌, ◌≤◌, ◌∙◌, ℕ, Lis
 use Rattle.std.specs.Cmp.Lexicographic.{slice_cmp}
 use Rattle.std.specs.declared.cmp.Ordering.TheVariants.{Less}
 use Rattle.std.proofs.lemmas.List.{drop_all, drop_more}
-use Rattle.domain.specs.Facts.{step_order}
-use Rattle.certificate.specs.declared.facts.Step.{Step}
-use Rattle.certificate.specs.declared.facts.Step.TheVariants.{Element}
-use Rattle.certificate.specs.Contents.{said_step}
-use Rattle.certificate.proofs.facts.compare_steps.Goals as goal
+use Rattle.domain.specs.Facts.{said_step, step_order}
+use Rattle.domain.specs.declared.facts.Step.{Step}
+use Rattle.domain.specs.declared.facts.Step.TheVariants.{Element}
+use Rattle.domain.proofs.facts.compare_steps.Goals as goal
 
 -- the same steps so far, and then steps that the others alone have
 ends_first : (steps others : List Step) (place : ℕ) → length steps ≤ place → place < length others
