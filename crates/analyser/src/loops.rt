@@ -1,7 +1,7 @@
 use crate::analysis::Analysis;
 use checker_expressions::visits::Visits;
 use checker_loops::claims::claim_facts;
-use checker_loops::ways::Way;
+use checker_ways::ways::Way;
 use typed_tree::tree::{ForHead, LoopHead, Stmt};
 
 // How often a loop is walked again at once, since a turn moved what is known at its head.

@@ -1,8 +1,8 @@
 use crate::analysis::Analysis;
 use analyser_plan::events::{events_of, expression_events};
 use checker_expressions::visits::Visits;
-use checker_loops::cases::begin_arm;
 use checker_state::{Known, entire};
+use checker_ways::cases::begin_arm;
 use typed_tree::calls::{hold_call, holds_call, passed_holds_call, whole_holds_call};
 use typed_tree::tree::{CaseHead, Expr, Stmt, WithHead, WriteParameter, Written};
 

@@ -14,9 +14,9 @@ use Rattle.typed_tree.specs.declared.tree.Tree.{Tree}
 use Rattle.checker_rows.specs.View.{numbers}
 use Rattle.checker_rows.specs.declared.span.Span.{Span}
 use Rattle.checker_state.specs.State.{State}
-use Rattle.checker_loops.specs.declared.aliases.Stored.{Stored as KeptStored}
+use Rattle.checker_ways.specs.declared.aliases.Stored.{Stored as KeptStored}
 use Rattle.checker_loops.specs.Aliases.{Stored, all_joined_to, with_aliases_stored}
-use Rattle.checker_loops.specs.BlockView.{said_stored}
+use Rattle.checker_ways.specs.View.{said_stored}
 use Rattle.cert_checker.specs.declared.stores.Stores.{Stores as KeptStores}
 use Rattle.cert_checker.specs.declared.stores.Stores.TheVariants as kept
 use Rattle.cert_checker.specs.StoresView.{said_stores}

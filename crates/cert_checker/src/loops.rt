@@ -1,6 +1,6 @@
 ghost use Rattle.std.specs.Prelude.{◌≡◌};
 ghost use Rattle.checker_rows.specs.Limits.{limits_of};
-ghost use Rattle.checker_loops.specs.View.{said_way};
+ghost use Rattle.checker_ways.specs.View.{said_way};
 ghost use Rattle.checker_loops.specs.Ways.{entered};
 ghost use Rattle.checker_expressions.specs.Walk.{changed_by, within};
 ghost use Rattle.cert_checker.specs.View.{AreLoops, EntersLoop, Goes, IsLoop, LeavesLoop, context_of};
@@ -9,8 +9,8 @@ ghost use Rattle.cert_checker.specs.Walk.{begin_way, steady_in, tested_way};
 use crate::walk::Walk;
 use checker_expressions::fault::Rule;
 use checker_loops::rounds::Round;
-use checker_loops::ways::Way;
 use checker_rows::limits;
+use checker_ways::ways::Way;
 use domain::interval::Interval;
 use place::Place;
 use typed_tree::tree::RangeTest;

@@ -4,15 +4,15 @@ ghost use Rattle.checker_state.specs.Stores.{all_stored};
 ghost use Rattle.checker_state.specs.View.{said_form, said_reach};
 ghost use Rattle.checker_trail.specs.Trail.{Moves};
 ghost use Rattle.checker_loops.specs.Aliases.{reach_unless_alias, unless_alias, with_aliases_stored};
-ghost use Rattle.checker_loops.specs.BlockView.{said_stored};
+ghost use Rattle.checker_ways.specs.View.{said_stored};
 ghost use Rattle.cert_checker.specs.View.{row_stored};
 ghost use Rattle.cert_checker.specs.StoresView.{said_stores};
 
-use checker_loops::aliases;
-use checker_loops::aliases::{Stored, form_unless_alias, reach_unless_alias};
 use checker_rows::{Rows, Span};
 use checker_state::{Bound, Reach};
 use checker_trail::State;
+use checker_ways::aliases;
+use checker_ways::aliases::{Stored, form_unless_alias, reach_unless_alias};
 use domain::interval::Interval;
 use std::alloc::{AllocError, Global};
 

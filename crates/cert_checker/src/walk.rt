@@ -6,7 +6,7 @@ ghost use Rattle.domain.specs.Interval.{common};
 ghost use Rattle.domain.specs.Numbers.{hull, is_covered};
 ghost use Rattle.checker_state.specs.View.{said_reach};
 ghost use Rattle.checker_loops.specs.Cases.{constants_before};
-ghost use Rattle.checker_loops.specs.View.{said_way};
+ghost use Rattle.checker_ways.specs.View.{said_way};
 ghost use Rattle.checker_expressions.specs.Visits.{all_counted};
 ghost use Rattle.checker_expressions.specs.Walk.{access_walk, call_walk, changed_by, index_pieces, parameter_walk};
 ghost use Rattle.checker_expressions.specs.Walk.{passed_piece_of, tested, value_walk, whole_walk};
@@ -17,10 +17,10 @@ ghost use Rattle.cert_checker.specs.Walk.{repeat_walk, rounds_of, statement_walk
 
 use checker_expressions::flow::Flow;
 use checker_expressions::visits::Visits;
-use checker_loops::cases::{begin_arm, constants_before, covers};
 use checker_loops::loops::Claims;
-use checker_loops::ways::Way;
 use checker_state::{Known, Reach, entire};
+use checker_ways::cases::{begin_arm, constants_before, covers};
+use checker_ways::ways::Way;
 use domain::Domain;
 use domain::interval::Interval;
 use std::alloc::{AllocError, Global};

@@ -12,7 +12,6 @@ pub mod Touched
 pub mod Lists
 pub mod Told
 pub mod Sectioned
-pub mod Stored
 pub mod Beginning
 pub mod AliasesHold
 pub mod AliasedStores

@@ -1,5 +1,4 @@
--- What is claimed of blocks, how a block begins and what is stored to aliases, as the definitions see them. It does not
--- say what is known of them.
+-- What is claimed of blocks, and how a block begins, as the definitions see them. It does not say what is known of them.
 use Rattle.std.specs.Prelude.{ℕ, suc, ◌≡◌, ◌<◌, ◌++◌, List, [], ◌∷◌, Option, Some, None, get_or, if◌then◌else◌, length}
 use Rattle.std.specs.Prelude.{map, min, nat_eq, slice_get, slice_set}
 use denote.Ref.{Bor}
@@ -11,14 +10,12 @@ use Rattle.certificate.specs.declared.Section.{Section as KeptSection}
 use Rattle.certificate.specs.Contents.{said_fact}
 use Rattle.checker_rows.specs.Rows.{rows_under}
 use Rattle.checker_state.specs.State.{State, with_defined, with_range}
-use Rattle.checker_loops.specs.declared.aliases.Stored.{Stored as KeptStored}
 use Rattle.checker_loops.specs.declared.sections.BlockClaims.{BlockClaims as KeptClaims}
 use Rattle.checker_loops.specs.declared.sections.BlockSection.{BlockSection}
 use Rattle.checker_loops.specs.declared.sections.Facts.{Facts}
 use Rattle.checker_loops.specs.declared.sections.Facts.TheVariants.{Listed, Kept}
 use Rattle.checker_loops.specs.Sections.{BlockClaims, no_block_claims}
 use Rattle.checker_loops.specs.Starts.{is_own, is_passed_value}
-use Rattle.checker_loops.specs.Aliases.{Stored}
 
 -- ---- what is claimed of a block
 
@@ -116,8 +113,3 @@ abbrev pub with_roots : (blocks root : ℕ) → List Variable → List (List ℕ
 with_roots blocks root [] rows = rows
 with_roots blocks root (variable ∷ declared) rows =
     with_roots blocks (suc root) declared (with_root (min variable.block blocks) root rows)
-
--- ---- what is stored
-
-abbrev pub said_stored : KeptStored → Stored
-said_stored stored = record { type_id = stored.type_id; range = stored.range }

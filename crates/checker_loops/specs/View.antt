@@ -1,4 +1,4 @@
--- The loops and ways of the program as the definitions see them. It does not say what is known of them.
+-- The loops of the program as the definitions see them. It does not say what is known of them.
 use Rattle.std.specs.Prelude.{ℕ, ◌≡◌, ◌<◌, List, [], ◌++◌, Option, Some, None, get_or, length, map}
 use Rattle.std.specs.Prelude.{◌&&◌, ◌∷◌, filter, if◌then◌else◌, nat_eq}
 use Rattle.std.specs.BTreeMap.{BTreeMap, get}
@@ -15,16 +15,12 @@ use Rattle.checker_rows.specs.Rows.{index_at, rows_of}
 use Rattle.checker_state.specs.State as state
 use Rattle.checker_state.specs.State.{Claim, Holds, Ordered}
 use Rattle.checker_state.specs.Stores.{all_of_row}
-use Rattle.checker_state.specs.View.{said_form}
 use Rattle.typed_tree.specs.declared.tree.Tree.{Tree}
 use Rattle.checker_loops.specs.declared.loops.Claims.{Claims as KeptClaims}
 use Rattle.checker_loops.specs.declared.rounds.Round.{Round as KeptRound}
-use Rattle.checker_loops.specs.declared.ways.End.{End as KeptEnd}
-use Rattle.checker_loops.specs.declared.ways.Way.{Way as KeptWay}
 use Rattle.checker_loops.specs.Loops.{Claims, Round, claims_of, or_else, round_of, rows_named, stretch_of}
 use Rattle.checker_loops.specs.Loops.{with_own}
 use Rattle.checker_loops.specs.Pairs.{Listed, aliases_of, declared_aliases, declares, partner}
-use Rattle.checker_loops.specs.Ways.{End, Way}
 
 -- ---- claims
 
@@ -148,15 +144,3 @@ head_round round = with_own round.own (loop_of_round round)
 abbrev pub own_controls : Option ℕ → List ℕ
 own_controls None = []
 own_controls (Some control) = control ∷ []
-
--- the way of a control variable, as the definitions see it
-abbrev pub said_end : KeptEnd → End
-said_end end = record { form = said_form end.form; fits = end.fits; values = end.values }
-
-abbrev pub said_way : KeptWay → Way
-said_way way = record {
-  control = way.control;
-  direction = way.direction;
-  first = said_end way.first;
-  last = said_end way.last;
-}

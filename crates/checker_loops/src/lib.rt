@@ -1,9 +1,6 @@
-//! What is known of loops, of the way of a control variable, in the arms of a case, of pairs and aliases, and where a
-//! block begins.
+//! What is known of loops, of pairs and aliases, and where a block begins.
 #![tactic(auto)]
 
-pub mod aliases;
-pub mod cases;
 pub mod claims;
 pub mod listed;
 pub mod loops;
@@ -11,4 +8,3 @@ pub mod pairs;
 pub mod rounds;
 pub mod sections;
 pub mod starts;
-pub mod ways;

@@ -1,5 +1,5 @@
 use Rattle.std.proofs.Common.{◌≡◌, map, take}
-use Rattle.checker_loops.specs.BlockView.{said_stored}
+use Rattle.checker_ways.specs.View.{said_stored}
 use Rattle.cert_checker.specs.StoresView.{said_stores}
 use Rattle.cert_checker.specs.View.{row_stored}
 use Rattle.cert_checker.proofs.stores.Stores.in_rows.Given as goal

@@ -2,7 +2,7 @@ use Rattle.std.proofs.Common.{ap, sym, ◌∙◌, ◌≡◌, length, List, map, 
 use Rattle.std.specs.Bool.{◌==◌}
 use Rattle.typed_tree.specs.declared.tree.Tree.{Tree}
 use Rattle.checker_loops.specs.Aliases.{Stored, with_aliases_stored}
-use Rattle.checker_loops.specs.BlockView.{said_stored}
+use Rattle.checker_ways.specs.View.{said_stored}
 use Rattle.checker_trail.proofs.Ways.{moves-as, moves-stay}
 use Rattle.checker_trail.specs.Trail.{seen}
 use Rattle.cert_checker.specs.StoresView.{said_stores}

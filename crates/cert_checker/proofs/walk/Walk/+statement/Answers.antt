@@ -7,7 +7,7 @@ use Rattle.typed_tree.specs.Entries.{entries_of_expression, entries_of_record, e
 use Rattle.checker_rows.specs.Rows.{is_ordinal_variable}
 use Rattle.checker_state.specs.State.{State}
 use Rattle.checker_state.specs.declared.value.Known.{Known}
-use Rattle.checker_loops.specs.View.{said_way}
+use Rattle.checker_ways.specs.View.{said_way}
 use Rattle.checker_loops.specs.Ways.{Way, turn_begun, turn_ended, way_of, way_out, where_counts}
 use Rattle.checker_state.specs.Loops.{with_undefined}
 use Rattle.checker_expressions.specs.Visits.{all_counted}

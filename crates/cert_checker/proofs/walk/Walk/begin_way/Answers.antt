@@ -1,4 +1,4 @@
-use Rattle.checker_loops.specs.View.{said_way}
+use Rattle.checker_ways.specs.View.{said_way}
 use Rattle.cert_checker.proofs.WaysTested.{way-begun}
 use Rattle.cert_checker.proofs.walk.Walk.begin_way.Goals as goal
 

@@ -1,6 +1,6 @@
 use Rattle.std.proofs.Common.{ap₂, ◌∙◌, Option, ℕ}
 use Rattle.checker_loops.specs.Loops.{Round, touched, with_own}
-use Rattle.checker_loops.specs.View.{said_way}
+use Rattle.checker_ways.specs.View.{said_way}
 use Rattle.checker_loops.specs.Ways.{steady}
 use Rattle.cert_checker.proofs.walk.Walk.steady_in.Goals as goal
 
