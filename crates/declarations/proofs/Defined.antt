@@ -1,8 +1,8 @@
 -- The names that denoters define, one denoter after another.
-use Rattle.std.proofs.Common.{◌≡◌, ℕ, ◌+◌, ◌<◌, ◌≤◌, List, [], ◌∷◌, ◌++◌, Vec, length, drop, get_or, map, flat_map, take, refl, sym, ap, ap₂, ◌∙◌}
+use Rattle.std.proofs.Common.{◌≡◌, ℕ, ◌+◌, ◌<◌, ◌≤◌, List, [], ◌∷◌, ◌++◌, Vec, length, drop, get_or, map, flat_map, refl, sym, ap, ap₂, ◌∙◌}
 use Rattle.std.proofs.Common.{append_assoc, append-nil, min, inl, inr, ◌⊎◌}
 use Rattle.std.specs.declared.alloc.Global.{Global}
-use Rattle.std.proofs.lemmas.List.{map-append, drop_more, at_drop_all, take_all}
+use Rattle.std.proofs.lemmas.List.{map-append, drop_more, at_drop_all}
 use Rattle.syntax_tree.specs.declared.Routine.{Routine}
 use Rattle.syntax_tree.specs.declared.TypeDefinition.{TypeDefinition}
 use Rattle.syntax_tree.specs.declared.VariableGroup.{VariableGroup}
@@ -92,39 +92,42 @@ module _ (rows : List (Vec Name Global)) (denoters : List TypeDenoter) where
 
 -- ---- a block
 
--- the names of a block, and others before them
-pub names_of_block : (before : List Name) (b : Block)
-    → all_folded (before ++ (typed_block b).names)
-    ≡ (((all_folded (before ++ map (λ d. d.name) (out-Block b).constants.items) ++ all_folded (flat_map type_names (out-Block b).types.items))
-    ++ all_folded (flat_map group_names (out-Block b).variables.items)) ++ all_folded (routine_names (out-Block b).routines.items))
+-- the names of a block, behind others
+names_of_block : (before : List (List ℕ)) (b : Block)
+    → before ++ all_folded (typed_block b).names
+    ≡ (((before ++ all_folded (map (λ d. d.name) (out-Block b).constants.items)) ++ all_folded (flat_map type_names (out-Block b).types.items))
+    ++ all_folded (flat_map group_names (out-Block b).variables.items)) ++ all_folded (routine_names (out-Block b).routines.items)
 names_of_block before b =
     let block = out-Block b in
     let constants = map (λ (d : ConstantDefinition). d.name) block.constants.items in
     let types = flat_map type_names block.types.items in
     let variables = flat_map group_names block.variables.items in
     let routines = routine_names block.routines.items in
-    ap (λ l. all_folded (before ++ l)) (block_names_are b)
-    ∙ ap all_folded (sym (append_assoc before constants (types ++ (variables ++ routines))))
-    ∙ map-append (λ (name : Name). folded name.text.now) (before ++ constants) (types ++ (variables ++ routines))
-    ∙ folded_both (all_folded (before ++ constants)) types (variables ++ routines)
-    ∙ folded_both (all_folded (before ++ constants) ++ all_folded types) variables routines
+    ap (λ l. before ++ all_folded l) (block_names_are b)
+    ∙ folded_both before constants (types ++ (variables ++ routines))
+    ∙ folded_both (before ++ all_folded constants) types (variables ++ routines)
+    ∙ folded_both ((before ++ all_folded constants) ++ all_folded types) variables routines
 
 -- they are gathered one part after another
-pub names_gathered : (before : List Name) (b : Block) (i : ℕ) (types : List TypeDefinition) (variables : List VariableGroup) (routines : List Routine)
-    (k0 k1 k2 k3 : List (List ℕ)) → length (out-Block b).constants.items ≤ i → types ≡ (out-Block b).types.items → variables ≡ (out-Block b).variables.items
-    → routines ≡ (out-Block b).routines.items
-    → k0 ≡ all_folded (before ++ map (λ d. d.name) (take i (out-Block b).constants.items)) → k1 ≡ k0 ++ all_folded (flat_map type_names types)
-    → k2 ≡ k1 ++ all_folded (flat_map group_names variables) → k3 ≡ k2 ++ all_folded (routine_names routines)
-    → k3 ≡ all_folded (before ++ (typed_block b).names)
-names_gathered before b i types variables routines k0 k1 k2 k3 past types_are variables_are routines_are first second third fourth =
-    let constants = (out-Block b).constants.items in
+pub names_gathered : (b : Block) (constants : List ConstantDefinition) (types : List TypeDefinition) (variables : List VariableGroup)
+    (routines : List Routine) (k0 k1 k2 k3 k4 : List (List ℕ)) → constants ≡ (out-Block b).constants.items → types ≡ (out-Block b).types.items
+    → variables ≡ (out-Block b).variables.items → routines ≡ (out-Block b).routines.items → k1 ≡ k0 ++ all_folded (map (λ d. d.name) constants)
+    → k2 ≡ k1 ++ all_folded (flat_map type_names types) → k3 ≡ k2 ++ all_folded (flat_map group_names variables)
+    → k4 ≡ k3 ++ all_folded (routine_names routines) → k4 ≡ k0 ++ all_folded (typed_block b).names
+names_gathered b constants types variables routines k0 k1 k2 k3 k4 constants_are types_are variables_are routines_are first second third fourth =
     fourth
     ∙ ap₂ (λ k rs. k ++ all_folded (routine_names rs))
     (third
     ∙ ap₂ (λ k vs. k ++ all_folded (flat_map group_names vs))
     (second
     ∙ ap₂ (λ k ts. k ++ all_folded (flat_map type_names ts))
-    (first ∙ ap (λ l. all_folded (before ++ map (λ (d : ConstantDefinition). d.name) l)) (take_all i constants past)) types_are)
+    (first ∙ ap (λ cs. k0 ++ all_folded (map (λ (d : ConstantDefinition). d.name) cs)) constants_are) types_are)
     variables_are)
     routines_are
-    ∙ sym (names_of_block before b)
+    ∙ sym (names_of_block k0 b)
+
+-- names behind others
+pub names_behind : (names more met : List Name) (before k0 k1 : List (List ℕ)) → met ≡ names → k0 ≡ before ++ all_folded met
+    → k1 ≡ k0 ++ all_folded more → k1 ≡ before ++ all_folded (names ++ more)
+names_behind names more met before k0 k1 is first second =
+    second ∙ ap (λ k. k ++ all_folded more) (first ∙ ap (λ l. before ++ all_folded l) is) ∙ sym (folded_both before names more)

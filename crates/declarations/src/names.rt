@@ -7,28 +7,28 @@ ghost use Rattle.declarations.specs.Known.{names_in, names_in_groups};
 
 use std::alloc::{AllocError, Global};
 use syntax_tree::{
-    Block, FormalGroup, Heading, Name, Routine, TypeDefinition, TypeDenoter, VariableGroup,
+    Block, ConstantDefinition, FormalGroup, Heading, Name, Program, Routine, TypeDefinition,
+    TypeDenoter, VariableGroup,
 };
 use typing::folded;
 
-/// The names that a block defines, in small letters: some parameters, its constants, its types, its variables, and its
-/// procedures and functions.
-#[tactic(auto, using(crate::proofs::Defined::names_of_block))]
-pub(crate) fn defined_names(
-    alloc: Global,
-    parameters: &[Name],
-    block: &Block,
-) -> Result<Vec<Vec<u8>>, AllocError>
-    ensures { IfOk result (λ keys. texts keys.items ≡ all_folded (parameters.now ++ (typed_block block.now).names)) }
+/// The names of a program's block, in small letters: its parameters, and those that the block defines.
+pub(crate) fn program_names(alloc: Global, program: &Program) -> Result<Vec<Vec<u8>>, AllocError>
+    ensures { IfOk result (λ keys. texts keys.items
+        ≡ all_folded (program.now.parameters.items ++ (typed_block program.now.block).names)) }
 {
     let mut keys = Vec::new(alloc);
-    fold_names(alloc, parameters, &mut keys)?;
-    for definition in &block.constants {
-        keys.push(folded(alloc, definition.name.text)?)?;
-    }
-    fold_types(alloc, &block.types, &mut keys)?;
-    fold_groups(alloc, &block.variables, &mut keys)?;
-    fold_routines(alloc, &block.routines, &mut keys)?;
+    fold_program(alloc, program, &mut keys)?;
+    Ok(keys)
+}
+
+/// The names that a block defines, in small letters: its constants, its types, its variables, and its procedures and
+/// functions.
+pub(crate) fn block_names(alloc: Global, block: &Block) -> Result<Vec<Vec<u8>>, AllocError>
+    ensures { IfOk result (λ keys. texts keys.items ≡ all_folded (typed_block block.now).names) }
+{
+    let mut keys = Vec::new(alloc);
+    fold_block(alloc, block, &mut keys)?;
     Ok(keys)
 }
 
@@ -46,7 +46,42 @@ pub(crate) fn formal_names(
     Ok(keys)
 }
 
-// The names of these type definitions too, in small letters.
+// Those of a program's block too.
+fn fold_program(alloc: Global, program: &Program, keys: &mut Vec<Vec<u8>>) -> Result<(), AllocError>
+    ensures { OnOk result (texts keys.new.items ≡ texts keys.old.items
+        ++ all_folded (program.now.parameters.items ++ (typed_block program.now.block).names)) }
+{
+    fold_names(alloc, &program.parameters, keys)?;
+    fold_block(alloc, &program.block, keys)
+}
+
+// Those that a block defines.
+fn fold_block(alloc: Global, block: &Block, keys: &mut Vec<Vec<u8>>) -> Result<(), AllocError>
+    ensures { OnOk result
+        (texts keys.new.items ≡ texts keys.old.items ++ all_folded (typed_block block.now).names) }
+{
+    fold_constants(alloc, &block.constants, keys)?;
+    fold_types(alloc, &block.types, keys)?;
+    fold_groups(alloc, &block.variables, keys)?;
+    fold_routines(alloc, &block.routines, keys)
+}
+
+// Those of these constants.
+fn fold_constants(
+    alloc: Global,
+    definitions: &[ConstantDefinition],
+    keys: &mut Vec<Vec<u8>>,
+) -> Result<(), AllocError>
+    ensures { OnOk result
+        (texts keys.new.items ≡ texts keys.old.items ++ all_folded (map (λ d. d.name) definitions.now)) }
+{
+    for definition in definitions {
+        keys.push(folded(alloc, definition.name.text)?)?;
+    }
+    Ok(())
+}
+
+// Those of these type definitions.
 fn fold_types(
     alloc: Global,
     definitions: &[TypeDefinition],

@@ -9,7 +9,7 @@ ghost use Rattle.declarations.specs.Parts.{block_declarations, declared};
 ghost use Rattle.declarations.specs.Known.{AreKnown};
 
 use crate::constants::declare_constants;
-use crate::names::defined_names;
+use crate::names::{block_names, program_names};
 use crate::parameters::declare_parameters;
 use crate::type_definitions::declare_types;
 use crate::variables::declare_groups;
@@ -38,7 +38,7 @@ fn begin(typer: &mut Typer, program: &Program) -> Result<(), TypeFault>
     ensures known { IfOk result (λ _. AreKnown (typed_block program.now.block).names typer.new.regions) }
 {
     typer.open_required()?;
-    let names = defined_names(typer.alloc, &program.parameters, &program.block)?;
+    let names = program_names(typer.alloc, program)?;
     typer.open_block(&names)?;
     declare_parameters(typer, &program.parameters)
 }
@@ -49,7 +49,7 @@ pub fn begin_block(typer: &mut Typer, number: u32, block: &Block) -> Result<Begu
         typer.new }
     ensures known { IfOk result (λ _. AreKnown (typed_block block.now).names typer.new.regions) }
 {
-    let names = defined_names(typer.alloc, &[], block)?;
+    let names = block_names(typer.alloc, block)?;
     typer.begin_block(number, &names)
 }
 
