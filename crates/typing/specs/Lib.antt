@@ -2,6 +2,7 @@ pub mod Names
 pub mod Passing
 pub mod Steps
 pub mod Strings
+pub mod Apostrophes
 pub mod Constants
 pub mod Denoters
 pub mod Functions

@@ -1,8 +1,10 @@
-ghost use Rattle.std.specs.Prelude.{◌≡◌, ◌⊎◌, [], Ok, Err, IfOk, MatchResult, option_map};
+ghost use Rattle.std.specs.Prelude.{◌≡◌, ◌⊎◌, [], Ok, Err, Some, None, IfOk, MatchOption, MatchResult, option_map};
+ghost use Rattle.std.specs.Prelude.{if◌then◌else◌};
 ghost use Rattle.typed_tree.specs.declared.fault.TypeFault.TheVariants.{Memory};
 ghost use Rattle.std.specs.List.{list_all};
 ghost use Rattle.typed_tree.specs.WellFormed.{is_character};
-ghost use Rattle.typing.specs.Strings.{characters, string_characters};
+ghost use Rattle.typing.specs.Apostrophes.{BeginsWith, closed};
+ghost use Rattle.typing.specs.Strings.{characters, characters_behind, string_characters};
 
 use crate::denoters::value_of;
 use crate::typer::Typer;
@@ -109,23 +111,44 @@ fn are_of_char(characters: &[u8]) -> bool
 fn undoubled(alloc: Global, text: &[u8]) -> Result<Option<Vec<u8>>, AllocError>
     ensures { IfOk result (λ found. option_map (λ made. made.items) found ≡ characters text.now) }
 {
-    let mut made = Vec::new(alloc);
-    let [b'\'', behind @ ..] = text else {
-        return Ok(None);
-    };
-    let mut rest = behind;
-    loop {
-        match rest {
-            [b'\''] => return Ok(Some(made)),
-            [b'\'', b'\'', more @ ..] => {
-                made.push(b'\'')?;
-                rest = more;
-            }
-            [b'\'', ..] | [] => return Ok(None),
-            [character, more @ ..] => {
-                made.push(*character)?;
-                rest = more;
-            }
-        }
+    match text {
+        [b'\'', behind @ ..] => undoubled_behind(alloc, behind),
+        _ => Ok(None),
     }
+}
+
+// The same behind the apostrophe that opens a string.
+fn undoubled_behind(alloc: Global, text: &[u8]) -> Result<Option<Vec<u8>>, AllocError>
+    ensures { IfOk result (λ found. option_map (λ made. made.items) found ≡ characters_behind text.now) }
+{
+    let mut made = Vec::new(alloc);
+    let mut rest = text;
+    while let Some((character, more)) = first_character(rest) {
+        made.push(character)?;
+        rest = more;
+    }
+    if closes(rest) {
+        Ok(Some(made))
+    } else {
+        Ok(None)
+    }
+}
+
+// The first of the characters that stand there, and what stands behind it.
+fn first_character(text: &[u8]) -> Option<(u8, &[u8])>
+    ensures { MatchOption result (characters_behind text.now ≡ closed text.now)
+        (λ found. BeginsWith found.0 found.1.now text.now) }
+{
+    match text {
+        [b'\'', b'\'', more @ ..] => Some((b'\'', more)),
+        [b'\'', ..] | [] => None,
+        [character, more @ ..] => Some((*character, more)),
+    }
+}
+
+// Whether nothing stands there but the apostrophe that closes a string.
+fn closes(text: &[u8]) -> bool
+    ensures { closed text.now ≡ (if result then Some [] else None) }
+{
+    matches!(text, [b'\''])
 }
