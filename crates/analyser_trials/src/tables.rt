@@ -103,7 +103,7 @@ enum Event {
     /// The same, where moves don't count.
     Uncounted(u32, &'static [i32]),
     /// States come in which variable 0 is at most variable 1 and each of these numbers in turn.
-    AtMost(&'static [i64]),
+    AtMost(&'static [i32]),
     /// The state has a value of a variable from here on, and a range of it.
     Between(u32, i32, i32),
     /// The state comes, which is told by a sign: whether it moved a fact.
@@ -130,47 +130,86 @@ fn ladders_of(alloc: Global, rows: usize, steps: &[i64]) -> Result<Ladders, Allo
     Ok(ladders)
 }
 
-/// Signs of what moved, and the facts that are left.
-fn row_told(alloc: Global, row: &Row) -> Result<String, AllocError> {
-    let (claims, steps, events) = *row;
-    let tree = tree(alloc)?;
-    let rows = Rows::of(alloc, &tree)?;
-    let ladders = ladders_of(alloc, rows.count(), steps)?;
-    let mut facts = facts_of(alloc, claims)?;
-    let mut table = Table::new(alloc, facts.len())?;
-    let mut state = State::of_types(alloc, &rows);
-    let mut told = String::new(alloc);
-    for event in events {
-        match *event {
+/// The facts of a place, and what is known of them.
+#[derive(Drop)]
+struct Place {
+    facts: Vec<Fact>,
+    table: Table,
+}
+
+impl Place {
+    /// A state comes. Answers a sign of whether it moved a fact.
+    fn meet(
+        &mut self,
+        state: &State,
+        rows: &Rows,
+        ladders: &Ladders,
+        counts: bool,
+    ) -> &'static str {
+        let coming = Coming::here(state);
+        sign(
+            self.table
+                .arrive(&mut self.facts, &coming, rows, ladders, counts),
+        )
+    }
+
+    /// An event. Answers its sign, if it has one.
+    fn happen(
+        &mut self,
+        event: Event,
+        state: &mut State,
+        rows: &Rows,
+        ladders: &Ladders,
+    ) -> &'static str {
+        match event {
             Values(root, values) | Uncounted(root, values) => {
-                let counts = matches!(*event, Values(..));
                 for value in values {
                     state.set_range(root as usize, Interval::between(*value, *value));
-                    table.arrive(&mut facts, &Coming::here(&state), &rows, &ladders, counts);
+                    self.meet(state, rows, ladders, matches!(event, Values(..)));
                 }
             }
             AtMost(numbers) => {
                 for number in numbers {
-                    let mut other = State::of_types(alloc, &rows);
-                    other.define(0);
-                    other.define(1);
-                    other.order(Order::new(0, 1, *number));
-                    table.arrive(&mut facts, &Coming::here(&other), &rows, &ladders, true);
+                    let mark = state.mark();
+                    state.define(0);
+                    state.define(1);
+                    state.order(Order::new(0, 1, i64::from(*number)));
+                    self.meet(state, rows, ladders, true);
+                    let _end = state.leave(mark);
                 }
             }
             Between(root, first, last) => {
                 state.define(root as usize);
                 state.set_range(root as usize, Interval::between(first, last));
             }
-            Comes => {
-                let moved = table.arrive(&mut facts, &Coming::here(&state), &rows, &ladders, true);
-                told.push(if moved { '+' } else { '-' })?;
-            }
-            Collects => table.collect(&facts, &Coming::here(&state)),
-            Narrows => told.push(if table.narrow(&mut facts) { '+' } else { '-' })?,
+            Comes => return self.meet(state, rows, ladders, true),
+            Collects => self.table.collect(&self.facts, &Coming::here(state)),
+            Narrows => return sign(self.table.narrow(&mut self.facts)),
         }
+        ""
     }
-    for fact in &facts {
+}
+
+fn sign(moved: bool) -> &'static str {
+    if moved { "+" } else { "-" }
+}
+
+/// Signs of what moved, and the facts that are left.
+fn row_told(alloc: Global, row: &Row) -> Result<String, AllocError> {
+    let (claims, steps, events) = *row;
+    let tree = tree(alloc)?;
+    let rows = Rows::of(alloc, &tree)?;
+    let ladders = ladders_of(alloc, rows.count(), steps)?;
+    let mut place = Place {
+        facts: facts_of(alloc, claims)?,
+        table: Table::new(alloc, claims.len())?,
+    };
+    let mut state = State::of_types(alloc, &rows);
+    let mut told = String::new(alloc);
+    for event in events {
+        told.push_str(place.happen(*event, &mut state, &rows, &ladders))?;
+    }
+    for fact in &place.facts {
         told.push_str(fact_told(alloc, fact)?.as_str())?;
     }
     Ok(told)
