@@ -1,4 +1,4 @@
-ghost use Rattle.std.specs.Prelude.{◌≡◌, true, IfOk, map};
+ghost use Rattle.std.specs.Prelude.{◌≡◌, ◌<◌, true, IfOk, map, vec_len, vec_capacity};
 ghost use Rattle.syntax_tree.specs.declared.Block.TheViews.{out-Routine};
 ghost use Rattle.typed_tree.specs.Kinds.{is_held_stmt};
 ghost use Rattle.typing.specs.Names.{heading_names};
@@ -30,19 +30,28 @@ pub(crate) fn body(
     ensures made { MakesBody made.old.items made.new.items ((typed_block written.now).typing typer.old) result
         typer.new }
     ensures held { IfOk result (λ body. is_held_stmt body ≡ true) }
+    ensures room { IfOk result (λ body. vec_len made.new < vec_capacity made.new) }
     ensures held_blocks { are_held_made made.old.items ≡ true → are_held_made made.new.items ≡ true }
 {
     declare(typer, written)?;
     routines(typer, made, &written.routines)?;
-    statement_part(typer, &written.statements)
+    statement_part(typer, made, &written.statements)
 }
 
-// The statements of a block, once each routine came that was declared with the directive forward.
-fn statement_part(typer: &mut Typer, written: &[syntax::Stmt]) -> Result<Stmt, TypeFault>
+// The statements of a block, once each routine came that was declared with the directive forward. There is room for the
+// block then.
+fn statement_part(
+    typer: &mut Typer,
+    made: &mut Vec<MadeBlock>,
+    written: &[syntax::Stmt],
+) -> Result<Stmt, TypeFault>
     ensures made { MakesStmt (statement_part written.now typer.old) result typer.new }
     ensures held { IfOk result (λ body. is_held_stmt body ≡ true) }
+    ensures room { IfOk result (λ body. vec_len made.new < vec_capacity made.new) }
+    ensures same { made.new.items ≡ made.old.items }
 {
     typer.all_came()?;
+    made.reserve(1)?;
     compound(typer, written)
 }
 
@@ -111,7 +120,8 @@ fn routine_block(
     end_routine(typer, made, number, begun, body, name.place, written.end)
 }
 
-// The block of a routine ends, behind its statements, and stands behind the blocks that were made before.
+// The block of a routine ends, behind its statements, and stands behind the blocks that were made before. It is put
+// there even where its result is refused, so that nothing is let go.
 fn end_routine(
     typer: &mut Typer,
     made: &mut Vec<MadeBlock>,
@@ -122,10 +132,11 @@ fn end_routine(
     end: Place,
 ) -> Result<(), TypeFault>
     requires held { is_held_stmt body ≡ true }
+    requires room { vec_len made.old < vec_capacity made.old }
     ensures made { EndsRoutine number begun body name end made.old.items made.new.items typer.old result typer.new }
     ensures held { are_held_made made.old.items ≡ true → are_held_made made.new.items ≡ true }
 {
-    let result = typer.result_at_end(name, end, begun.root)?;
+    let told = typer.result_at_end(name, end, begun.root);
     let BegunBlock {
         round,
         around,
@@ -136,9 +147,10 @@ fn end_routine(
     let heading = Heading {
         around,
         parameters,
-        result,
+        result: told.unwrap_or(None),
     };
     let block = Block { heading, body, end };
-    made.push(MadeBlock { number, block })?;
+    made.push_reserved(MadeBlock { number, block });
+    told?;
     Ok(())
 }

@@ -1,4 +1,4 @@
-use Rattle.std.proofs.Common.{rules, ◌≡◌, [], Ok, map, sym, subst}
+use Rattle.std.proofs.Common.{rules, ◌≡◌, [], Ok, map, sym, ap, subst, ◌∙◌}
 use Rattle.syntax_tree.specs.declared.Block.{the_lemmas}
 use Rattle.syntax_tree.specs.declared.Block.TheViews.{out-Block}
 use Rattle.typing.specs.Outcomes.{IsFault}
@@ -9,7 +9,7 @@ use Rattle.declarations.specs.Known.{AreKnownRoutines}
 use Rattle.declarations.specs.Parts.{block_declarations}
 use Rattle.declarations.proofs.KeptBlocks.{declarations_keep, routine_keeps, routines_stay}
 use Rattle.declarations.proofs.Opened.{routines_known}
-use Rattle.resolver.specs.Made.{MakesStmt, look_made, statement_part}
+use Rattle.resolver.specs.Made.{MakesStmt, are_held_made, look_made, statement_part}
 use Rattle.resolver.proofs.BlockForms.{begun_stops, block_stops, body_answers, routine_answers, routine_next, routines_stop}
 use Rattle.resolver.proofs.blocks.+blocks.Goals as goal
 
@@ -41,9 +41,14 @@ body-returns-clause-made t c =
     let there = c.routines.new.typer in
     let passes = subst (λ l. each (λ (r : TypedRoutine). r.typing) (map typed_routine l) c.declare.new.typer ≡ Ok (after tt (look_made own.0) there))
     c.deref.ensures.value own.2 in
-    body_answers b c.args.typer.now c.declare.new.typer there c.statement_part.new.typer c.args.made.now.items c.routines.new.made.items own.0 own.1
+    body_answers b c.args.typer.now c.declare.new.typer there c.statement_part.new.typer c.args.made.now.items c.statement_part.new.made.items own.0
+    (c.statement_part.ensures.same ∙ own.1)
     c.in_ok-declare.ensures passes c.statement_part.result
     (subst (λ l. MakesStmt (statement_part l there) c.statement_part.result c.statement_part.new.typer) c.deref-2.ensures.value c.statement_part.ensures.made)
+
+-- no block is made there
+pub body-returns-clause-held_blocks : goal.body-returns-clause-held_blocks
+body-returns-clause-held_blocks t c = λ before. ap are_held_made c.statement_part.ensures.same ∙ c.routines.ensures.held before
 
 -- the next routine is made
 pub routines-loop-next-preserved : goal.routines-loop-next-preserved
