@@ -10,6 +10,7 @@ use Rattle.syntax_tree.specs.declared.Expr.TheViews.{out-Actual}
 use Rattle.scopes.specs.declared.denotation.Denotation.{Denotation}
 use Rattle.scopes.specs.declared.denotation.Denotation.TheVariants as denotes
 use Rattle.typed_tree.specs.declared.fault.TypeFault.{TypeFault}
+use Rattle.typed_tree.specs.declared.fault.TypeFault.TheVariants.{Memory, Mismatch}
 use Rattle.typed_tree.specs.declared.site.SiteKind.{SiteKind}
 use Rattle.typed_tree.specs.declared.tree.Designator.{Designator}
 use Rattle.typed_tree.specs.declared.tree.Designator.TheVariants as designator
@@ -49,6 +50,7 @@ use Rattle.typing_rules.specs.Typed.{typed, typed_set, typed_text}
 use Rattle.typing.specs.Outcomes.{IsFault, Makes, Tells}
 use Rattle.expression_resolver.specs.declared.typed.Begun.{Begun}
 use Rattle.expression_resolver.specs.declared.typed.Members.{Members}
+use Rattle.expression_resolver.specs.declared.typed.RightOperand.{RightOperand}
 use Rattle.expression_resolver.specs.declared.typed.SitedMember.{SitedMember}
 use Rattle.expression_resolver.specs.declared.typed.TypedCall.{TypedCall}
 use Rattle.expression_resolver.specs.declared.typed.TypedExpr.{TypedExpr}
@@ -119,6 +121,25 @@ pub record IsChainOf (first : Expr) (site : Option ℕ) (rest : TypedLinks) (mad
       ≡ Begins ∷ (look_expr first ++ (flat_map look_link rest.links.items ++ (Ends ∷ [])))
   pub is : typed_of made ≡ record { value = rest.typed.value; site = site }
 
+-- the operators behind such a left operand, unless they are refused
+abbrev pub AreLinksOf : TypedValue → Result TypedLinks TypeFault → Type 0
+AreLinksOf left (Ok rest) = AreHeldLinks left rest.typed.value rest.links.items
+AreLinksOf left (Err why) = Unit {0}
+
+-- a chain, as it is made of a first operand and the operators behind it
+pub record IsChain (left : TypedExpr) (rest : TypedLinks) (made : TypedExpr) : Type 0 where
+  pub scalar : is_scalar_value (value_of left.value) ≡ true
+  pub looks : look_value made.value
+      ≡ Begins ∷ (look_value left.value ++ (flat_map look_link rest.links.items ++ (Ends ∷ [])))
+  pub is : typed_of made ≡ record { value = rest.typed.value; site = left.site }
+
+-- the same, unless the operators are refused; K1 at a place where these make no ordinal and no set
+abbrev pub MakesChain : Place → TypedExpr → Result TypedLinks TypeFault → Result TypedExpr TypeFault → Type 0
+MakesChain place left (Ok rest) (Ok made) = IsChain left rest made
+MakesChain place left (Ok rest) (Err why) =
+    (why ≡ Memory) ⊎ ((is_scalar_value (value_of left.value) ≡ false) × (why ≡ Mismatch place))
+MakesChain place left (Err why) result = result ≡ Err why
+
 -- how two strings look that are compared, behind the right one
 abbrev pub look_compared : Option Copy → Option Copy → Look
 look_compared (Some left) (Some right) = Compared left.source left.cells right.source right.cells ∷ []
@@ -146,6 +167,26 @@ pub record IsRelationOf (number : ℕ) (operation : Dyadic) (left right : TypedE
       ≡ Begins ∷ (look_value left.value ++ (Operator number operation ∷ (look_value right.value
       ++ (look_compared (whole_copy (value_of left.value)) (whole_copy (value_of right.value)) ++ (Ends ∷ [])))))
   pub is : typed_of made ≡ typed boolean left.site
+
+-- how a right operand looks behind a left one
+abbrev pub look_right : TypedValue → RightOperand → Look
+look_right left right =
+    Operator right.number right.operation ∷ (look_value right.operand.value
+    ++ (look_compared (whole_copy left) (whole_copy (value_of right.operand.value)) ++ (Ends ∷ [])))
+
+abbrev pub MakesRight : Typed → Checked (After Typed) → Result RightOperand TypeFault → Passed → Type 0
+MakesRight left = Makes (λ _. typed boolean left.site) (look_right left.value)
+
+-- it is one that its relation takes, unless it is refused
+abbrev pub IsRightOf : TypedValue → Result RightOperand TypeFault → Type 0
+IsRightOf left (Ok right) = relates right.operation left (value_of right.operand.value) ≡ true
+IsRightOf left (Err why) = Unit {0}
+
+-- the relation of a left operand and a right one, unless that is refused
+abbrev pub MakesRelation : TypedExpr → Result RightOperand TypeFault → Result TypedExpr TypeFault → Type 0
+MakesRelation left (Ok right) (Ok made) = IsRelationOf right.number right.operation left right.operand made
+MakesRelation left (Ok right) (Err why) = why ≡ Memory
+MakesRelation left (Err why) result = result ≡ Err why
 
 -- ---- set constructors
 

@@ -12,12 +12,12 @@ ghost use Rattle.typing.specs.Expressions.{result_variable};
 ghost use Rattle.typing.specs.View.{denoted_of};
 ghost use Rattle.expression_resolver.specs.Made.{IsHostOf, MakesActuals, MakesCall, MakesPassed};
 ghost use Rattle.expression_resolver.specs.Made.{MakesCopied, MakesFitted, copied, fitted};
-ghost use Rattle.expression_resolver.specs.Made.{AreHeldLinks, MakesTyped, MakesLink, MakesLinks, is_alone};
+ghost use Rattle.expression_resolver.specs.Made.{AreHeldLinks, MakesTyped, MakesLink, MakesLinks, MakesRight};
+ghost use Rattle.expression_resolver.specs.Made.{is_alone, relates, typed_of};
 ghost use Rattle.expression_resolver.specs.Made.{MakesFirst, MakesLast, MakesMembers, TakesMember, range_behind};
-ghost use Rattle.expression_resolver.specs.Made.{typed_of};
 ghost use Rattle.expression_resolver.specs.Accesses.{MakesSelection, MakesIndex, SelectsElement, SelectsOne, IsCounted};
 ghost use Rattle.expression_resolver.specs.Accesses.{MakesReached, component_of, entire_value, reached};
-ghost use Rattle.expression_resolver.specs.Values.{AreTestedAlike, are_held_actuals, look_value, tested_as};
+ghost use Rattle.expression_resolver.specs.Values.{AreTestedAlike, are_held_actuals, look_value, tested_as, value_of};
 
 use crate::accesses::{
     accessed_value, begin, constant, enter, named_variable, select_field, set, text,
@@ -26,7 +26,7 @@ use crate::forms::{first_place, only};
 use crate::input::{input_call, input_value};
 use crate::operators::{self, monadic};
 use crate::typed::{
-    Begun, Members, Reached, Selection, SitedMember, TypedCall, TypedExpr, TypedLinks,
+    Begun, Members, Reached, RightOperand, Selection, SitedMember, TypedCall, TypedExpr, TypedLinks,
 };
 use crate::value::Value;
 use place::Place;
@@ -390,12 +390,8 @@ fn chain(
     ensures { MakesTyped (behind_marks (Begins ∷ look_value left.value) (spec.chain_behind place (map spec.written_link
         rest.now) (typed_of left) typer.old)) result typer.new }
 {
-    let site = left.site;
-    let rest = links(typer, left.typed(), rest)?;
-    if !rest.typed.value.is_scalar() {
-        return Err(TypeFault::Mismatch(place));
-    }
-    operators::chain(typer.alloc, left.into_scalar(), site, rest)
+    let rest = links(typer, left.typed(), rest);
+    operators::chain(typer.alloc, place, left, rest)
 }
 
 // The operators of a chain, behind what stands to their left.
@@ -437,9 +433,8 @@ fn link(typer: &mut Typer, left: Typed, written: &syntax::Link) -> Result<(Link,
     Ok((link, Typed { value, site }))
 }
 
-// A relation behind its left operand (6.7.2.5): K1 at its operator where it doesn't relate its operands.
+// A relation behind its left operand (6.7.2.5).
 #[cycle(expressions)]
-#[tactic(auto, using(crate::proofs::Operands::compares_look))]
 fn relation(
     typer: &mut Typer,
     left: TypedExpr,
@@ -450,15 +445,35 @@ fn relation(
     ensures { MakesTyped (behind_marks (Begins ∷ look_value left.value) (spec.relation_behind operator place
         (spec.expression right.now) (typed_of left) typer.old)) result typer.new }
 {
-    let operation = relation_behind(operator, left.typed().value).ok_or(TypeFault::Mismatch(
-        place,
-    ))?;
+    let right = right_operand(typer, left.typed(), operator, place, right);
+    operators::relation(typer.alloc, left, right)
+}
+
+// The right operand of a relation, behind the left one: K1 at its operator where it doesn't relate its operands.
+#[cycle(expressions)]
+#[tactic(auto, using(crate::proofs::Operands::compares_look))]
+fn right_operand(
+    typer: &mut Typer,
+    left: Typed,
+    operator: syntax::RelationalOperator,
+    place: Place,
+    written: &syntax::Expr,
+) -> Result<RightOperand, TypeFault>
+    ensures made { MakesRight left (spec.relation_behind operator place (spec.expression written.now) left typer.old)
+        result typer.new }
+    ensures related { IfOk result (λ made. relates made.operation left.value (value_of made.operand.value) ≡ true) }
+{
+    let operation = relation_behind(operator, left.value).ok_or(TypeFault::Mismatch(place))?;
     let number = typer.enter()?;
-    let right = expression(typer, right, None)?;
-    if !may_relate(typer.types(), operator, left.typed(), right.typed()) {
+    let operand = expression(typer, written, None)?;
+    if !may_relate(typer.types(), operator, left, operand.typed()) {
         return Err(TypeFault::Mismatch(place));
     }
-    operators::relation(typer.alloc, number, operation, left, right)
+    Ok(RightOperand {
+        number,
+        operation,
+        operand,
+    })
 }
 
 // A set constructor (6.7.1).

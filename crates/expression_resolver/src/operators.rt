@@ -4,12 +4,14 @@ ghost use Rattle.typed_tree.specs.Kinds.{held_by, is_held, is_ordinal_expr, link
 ghost use Rattle.typed_tree.specs.Look.{look_expr};
 ghost use Rattle.types.specs.Types.{boolean};
 ghost use Rattle.typing_rules.specs.Typed.{is_scalar_value, typed};
-ghost use Rattle.expression_resolver.specs.Made.{IsMonadicOf, IsChainOf, IsRelationOf, held_behind, relates};
+ghost use Rattle.expression_resolver.specs.Made.{AreLinksOf, IsMonadicOf, IsChainOf, IsRelationOf, IsRightOf};
+ghost use Rattle.expression_resolver.specs.Made.{MakesChain, MakesRelation, held_behind, relates};
 ghost use Rattle.expression_resolver.specs.Made.{typed_of};
 ghost use Rattle.expression_resolver.specs.Values.{is_held_as_told, look_value, scalar_of, value_of};
 
-use crate::typed::{Begun, TypedExpr, TypedLinks};
+use crate::typed::{Begun, RightOperand, TypedExpr, TypedLinks};
 use crate::value::Value;
+use place::Place;
 use std::alloc::Global;
 use typed_tree::fault::TypeFault;
 use typed_tree::tree::{Dyadic, Expr, Link, Monadic};
@@ -54,9 +56,28 @@ fn scalar(told: TypedValue, value: Expr) -> Value
     }
 }
 
-/// Operators of one precedence behind a first operand.
-#[tactic(auto, using(typed_tree::proofs::Looks::look_chain, crate::proofs::HeldForms::held_chain))]
+/// A first operand and the operators behind it, unless these are refused: K1 at the place where it is no ordinal and no
+/// set.
 pub(crate) fn chain(
+    alloc: Global,
+    place: Place,
+    left: TypedExpr,
+    rest: Result<TypedLinks, TypeFault>,
+) -> Result<TypedExpr, TypeFault>
+    requires held { AreLinksOf (value_of left.value) rest }
+    ensures { MakesChain place left rest result }
+{
+    let rest = rest?;
+    if !rest.typed.value.is_scalar() {
+        return Err(TypeFault::Mismatch(place));
+    }
+    let site = left.site;
+    chained(alloc, left.into_scalar(), site, rest)
+}
+
+// Operators of one precedence behind a first operand.
+#[tactic(auto, using(typed_tree::proofs::Looks::look_chain, crate::proofs::HeldForms::held_chain))]
+fn chained(
     alloc: Global,
     first: Expr,
     site: Option<u32>,
@@ -78,21 +99,24 @@ pub(crate) fn chain(
     })
 }
 
-/// The relation of two operands that it takes.
+/// The relation of a left operand and a right one that it takes, unless that is refused.
 pub(crate) fn relation(
     alloc: Global,
-    number: u32,
-    operation: Dyadic,
     left: TypedExpr,
-    right: TypedExpr,
+    right: Result<RightOperand, TypeFault>,
 ) -> Result<TypedExpr, TypeFault>
-    requires related { relates operation (value_of left.value) (value_of right.value) ≡ true }
-    ensures { MatchResult result (IsRelationOf number operation left right) (λ why. why ≡ Memory) }
+    requires related { IsRightOf (value_of left.value) right }
+    ensures { MakesRelation left right result }
 {
+    let RightOperand {
+        number,
+        operation,
+        operand,
+    } = right?;
     if left.typed().value.is_scalar() {
-        linked(alloc, number, operation, left, right)
+        linked(alloc, number, operation, left, operand)
     } else {
-        Ok(compared(alloc, number, operation, left, right))
+        Ok(compared(alloc, number, operation, left, operand))
     }
 }
 

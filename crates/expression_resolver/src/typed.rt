@@ -6,7 +6,9 @@ use crate::value::Value;
 use place::Place;
 use std::alloc::Global;
 use typed_tree::fault::TypeFault;
-use typed_tree::tree::{Access, Base, Call, Designator, Expr, Link, Passed, Selector, Whole};
+use typed_tree::tree::{
+    Access, Base, Call, Designator, Dyadic, Expr, Link, Passed, Selector, Whole,
+};
 use types::TypeId;
 use typing_rules::{Typed, TypedValue};
 
@@ -135,6 +137,14 @@ pub struct TypedCall {
 pub(crate) struct TypedLinks {
     pub(crate) links: Vec<Link>,
     pub(crate) typed: Typed,
+}
+
+/// The right operand of a relation, with its number and its operation.
+#[derive(Drop)]
+pub(crate) struct RightOperand {
+    pub(crate) number: u32,
+    pub(crate) operation: Dyadic,
+    pub(crate) operand: TypedExpr,
 }
 
 /// The selectors of an access with their index expressions, and the type of the component to which they lead

@@ -1,13 +1,14 @@
 use Rattle.std.proofs.lemmas.Bool.Decides.{nat_tests}
 use Rattle.std.proofs.Common.{rules, ◌≡◌, ◌<◌, ◌+◌, ap₂, length, map, sym, ap, subst, ◌∙◌, arith, false}
-use Rattle.std.proofs.Common.{is_some, refl, true, ◌≤◌, [], Some, None, Ok}
+use Rattle.std.proofs.Common.{IfOk, is_some, refl, true, ◌≤◌, [], Some, None, Ok}
 use Rattle.syntax_tree.specs.declared.Designator.TheVariants as written
 use Rattle.syntax_tree.specs.declared.Expr.TheViews.{out-Link}
 use Rattle.types.specs.Types.{kind_of}
 use Rattle.typed_tree.specs.declared.site.SiteKind.TheVariants.{SetMember}
 use Rattle.typed_tree.specs.Kinds.{held_by}
 use Rattle.typing_rules.specs.Targets.{fitting_value, members_test}
-use Rattle.expression_resolver.specs.Made.{AreHeldLinks, IsMemberBehind, typed_of}
+use Rattle.typing_rules.specs.declared.typed.Typed.{Typed}
+use Rattle.expression_resolver.specs.Made.{AreHeldLinks, IsMemberBehind, MakesLinks, MakesRight, relates, typed_of}
 use Rattle.expression_resolver.specs.Values.{look_value, tested_as, value_of}
 use Rattle.expression_resolver.proofs.HeldForms.{held_passed_value}
 use Rattle.expression_resolver.proofs.KeptKinds.{site_alike, tested_alike}
@@ -31,7 +32,7 @@ use Rattle.typing.proofs.Selectors.{index_passes}
 use Rattle.typing_rules.specs.Operators.{result_of, relation_behind_value, may_relate}
 use Rattle.expression_resolver.specs.Accesses.{SelectsOne}
 use Rattle.expression_resolver.proofs.Selecting.{component_begins, component_stops, elements_take_one, element_selects, field_selects}
-use Rattle.expression_resolver.proofs.Chains.{chain_begun, link_made, relation_begun}
+use Rattle.expression_resolver.proofs.Chains.{chain_begun, chain_joined, link_made, links_are, relation_begun, relation_joined, right_is}
 use Rattle.expression_resolver.proofs.Named.{named_is}
 use Rattle.expression_resolver.proofs.Actuals.{ArePassedFrom, one_held, one_passed}
 use Rattle.expression_resolver.proofs.Calls.{value_by_host}
@@ -357,14 +358,43 @@ links-loop-written-preserved t c =
       room = omega (arith, c.push_reserved.ensures.capacity);
     }
 
+pub chain-chain-requires : goal.chain-chain-requires
+chain-chain-requires t c =
+    let made = c.links-rest.result in record {
+      held = links_are (value_of c.args.left.value) made
+          (subst (λ (l : Typed). IfOk made (λ one. AreHeldLinks l.value one.typed.value one.links.items)) c.typed.ensures c.links-rest.ensures.held);
+    }
+
+pub chain-returns : goal.chain-returns
+chain-returns t c =
+    let rest = map written_link c.args.rest.now in
+    let old = c.args.typer.now in
+    let new = c.links-rest.new.typer in
+    let made = subst (λ l. MakesLinks (spec.links l rest old) c.links-rest.result new) c.typed.ensures c.links-rest.ensures.made in
+    chain_joined c.args.left c.args.place rest old new c.links-rest.result c.chain.result made c.chain.ensures
+
 pub relation-relation-requires : goal.relation-relation-requires
 relation-relation-requires t c =
-    let l = typed_of c.args.left in
-    let r = typed_of c.in_ok-right.right in
-    let does : relation_behind_value c.args.operator l.value ≡ Some c.in_ok-operation.operation = search rules in
-    let may : may_relate c.expression.new.typer.types c.args.operator l r ≡ true = search rules in
-    let so = relates_both c.expression.new.typer.types c.args.operator c.in_ok-operation.operation l r does may in
-    record { related = so }
+    let made = c.right_operand-right.result in record {
+      related = right_is (value_of c.args.left.value) made
+          (subst (λ (l : Typed). IfOk made (λ one. relates one.operation l.value (value_of one.operand.value) ≡ true)) c.typed.ensures
+          c.right_operand-right.ensures.related);
+    }
+
+pub relation-returns : goal.relation-returns
+relation-returns t c =
+    let behind_it = relation_behind c.args.operator c.args.place (expression c.args.right.now) in
+    let old = c.args.typer.now in
+    let new = c.right_operand-right.new.typer in
+    let made = subst (λ l. MakesRight l (behind_it l old) c.right_operand-right.result new) c.typed.ensures c.right_operand-right.ensures.made in
+    relation_joined c.args.left (behind_it (typed_of c.args.left) old) c.right_operand-right.result c.relation.result new made c.relation.ensures
+
+pub right_operand-returns-clause-related : goal.right_operand-returns-clause-related
+right_operand-returns-clause-related t c =
+    let r = typed_of c.in_ok-operand.operand in
+    let does : relation_behind_value c.args.operator c.args.left.value ≡ Some c.in_ok-operation.operation = search rules in
+    let may : may_relate c.expression.new.typer.types c.args.operator c.args.left r ≡ true = search rules in
+    relates_both c.expression.new.typer.types c.args.operator c.in_ok-operation.operation c.args.left r does may
 
 -- ---- members
 
