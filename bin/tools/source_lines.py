@@ -1,5 +1,6 @@
 """The lines of the source or the certificate that messages name, each shown with a caret below its place."""
 
+import functools
 import os
 import re
 
@@ -39,6 +40,7 @@ class Texts:
             self.read[path] = [] if text is None else text.split(b"\n")
         return self.read[path]
 
+    @functools.lru_cache(maxsize=None)
     def source(self):
         """The text of the source; None where it can't be read, or pcom wouldn't."""
         text = b"\n".join(self.lines(self.files.source))
