@@ -1,4 +1,5 @@
 pub mod Blocks
+pub mod Both
 pub mod Built
 pub mod Constants
 pub mod Denoters

@@ -1,6 +1,7 @@
 //! The syntax of a Pascal program (ISO 7185:1990, 6.2 to 6.10), from its tokens.
 #![tactic(auto)]
 
+mod beside;
 mod block;
 mod constants;
 mod denoter;

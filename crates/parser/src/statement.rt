@@ -6,6 +6,7 @@ ghost use Rattle.token_cursor.specs.Rows.{MakesRows};
 ghost use Rattle.parser.specs.Built.{alternative_outline, body_outline, case_outlines, compound_outlines};
 ghost use Rattle.parser.specs.Built.{control_lexeme, initial_outline, records_outlines, statements_outlines};
 
+use crate::beside::beside;
 use crate::constants::row;
 use crate::lists::behind_arm;
 use expression_parser::expression::{actuals, expression, selectors};
@@ -233,8 +234,7 @@ fn initial<'a>(
     ensures { Makes initial_outline (spec.initial levels cursor.old.rest.now) result cursor.new }
 {
     let first = expression(alloc, cursor, levels)?;
-    let direction = cursor.expect_direction()?;
-    Ok((first, direction))
+    beside(first, cursor.expect_direction())
 }
 
 /// A case statement (6.8.3.5), below which `levels` levels are left.
