@@ -69,8 +69,8 @@ fn array<'a>(
     let place = cursor.expect_word(Word::Array);
     let place = cursor.followed_by(place, Kind::Symbol(Symbol::OpenBracket))?;
     let indexes = indexes(alloc, cursor, levels);
-    let indexes = cursor.followed_by(indexes, Kind::Symbol(Symbol::CloseBracket))?;
-    cursor.expect_word(Word::Of)?;
+    let indexes = cursor.followed_by(indexes, Kind::Symbol(Symbol::CloseBracket));
+    let indexes = cursor.followed_by(indexes, Kind::Word(Word::Of))?;
     let element = part(alloc, cursor, levels)?;
     Ok(TypeDenoter::Array {
         packed,
