@@ -9,4 +9,5 @@ pub mod Listed
 pub mod Next
 pub mod Pairs
 pub mod Parts
+pub mod Programs
 pub mod Simple

@@ -3,6 +3,7 @@ pub mod Both
 pub mod Built
 pub mod Constants
 pub mod Denoters
+pub mod Ended
 pub mod Fields
 pub mod Headings
 pub mod Lists

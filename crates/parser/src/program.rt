@@ -6,11 +6,12 @@ ghost use Rattle.reading.specs.Laws.{HasOneTree};
 ghost use Rattle.reading.specs.Trees.{name_outline, program_outline};
 ghost use Rattle.token_cursor.specs.Cursor.{Makes};
 ghost use Rattle.token_cursor.specs.LeftOut.{first_left_out};
+ghost use Rattle.parser.specs.Ended.{IsEnded};
 ghost use Rattle.parser.specs.Syntax.{most, Answers, IsDeep, IsOfRules, IsReadAs};
 
 use crate::block::block;
 use crate::lists::in_parentheses;
-use lexer::token::{Symbol, Token, Word};
+use lexer::token::{Kind, Symbol, Token, Word};
 use reading::refusal::Refusal;
 use std::alloc::Global;
 use syntax_tree::{Name, Program};
@@ -51,15 +52,24 @@ fn program<'a>(alloc: Global, cursor: &mut Cursor<'_, 'a>) -> Result<Program<'a>
 {
     cursor.expect_word(Word::Program)?;
     let name = cursor.expect_name()?;
-    let parameters = parameters(alloc, cursor)?;
-    cursor.expect_symbol(Symbol::Semicolon)?;
-    let block = block(alloc, cursor, MAX_NESTING)?;
-    cursor.expect_period_at_end()?;
+    let parameters = parameters(alloc, cursor);
+    let parameters = cursor.followed_by(parameters, Kind::Symbol(Symbol::Semicolon))?;
+    let block = block(alloc, cursor, MAX_NESTING);
+    let block = ended(cursor, block)?;
     Ok(Program {
         name,
         parameters,
         block,
     })
+}
+
+/// What a rule read, if the period of a program stands behind it and nothing else.
+fn ended<T: Drop>(cursor: &mut Cursor<'_, '_>, found: Result<T, Refusal>) -> Result<T, Refusal>
+    ensures { IsEnded found cursor.old result cursor.new }
+{
+    let made = found?;
+    cursor.expect_period_at_end()?;
+    Ok(made)
 }
 
 #[tactic(auto, using(crate::proofs::Parts::lists_of_names), unfolding(reading::specs::Declarations::parameters))]
