@@ -10,4 +10,5 @@ mod Only
 pub mod Operands
 pub mod PassedForms
 mod Results
+mod Scalars
 pub mod Selecting

@@ -13,13 +13,13 @@ use Rattle.typed_tree.specs.declared.tree.Scalar.{Scalar}
 use Rattle.typed_tree.specs.declared.tree.Scalar.TheVariants as scalar
 use Rattle.typed_tree.specs.declared.tree.Whole.{Whole}
 use Rattle.typed_tree.specs.declared.tree.Whole.TheVariants as whole
-use Rattle.typed_tree.specs.Kinds.{are_ordinal_indexes, held_by, is_held, is_held_passed}
+use Rattle.typed_tree.specs.Kinds.{are_ordinal_indexes, held_by, is_held, is_held_passed, is_held_value}
 use Rattle.typed_tree.specs.Look.{Look, Text as TextMark, look_expr, look_whole}
 use Rattle.typed_tree.specs.Tests.{all_hold}
 use Rattle.typed_tree.specs.WellFormed.{length_of, source_of}
 use Rattle.typing_rules.specs.declared.typed.TypedValue.{TypedValue}
 use Rattle.typing_rules.specs.declared.typed.TypedValue.TheVariants as typed
-use Rattle.typing_rules.specs.Targets.{Copy}
+use Rattle.typing_rules.specs.Targets.{Copy, whole_copy}
 use Rattle.expression_resolver.specs.declared.value.Value.{Value}
 use Rattle.expression_resolver.specs.declared.value.Value.TheVariants.{Ordinal, Set, Text, Variable}
 
@@ -57,6 +57,16 @@ are_held_actuals actuals = all_hold (map is_held_passed actuals)
 -- how a structured value is copied or compared with its index expressions
 abbrev pub copy_of : Whole × Vec Expr Global → Copy
 copy_of made = record { source = source_of made.0; cells = length_of made.0 }
+
+-- the ordinal or the set that it is, and the structured value with its index expressions
+pub record IsScalarOf (value : Value) (made : Expr) : Type 0 where
+  pub looks : look_value value ≡ look_expr made
+  pub held : is_held (scalar_of (value_of value)) (held_by made) ≡ true
+
+pub record IsWholeOf (value : Value) (made : Whole × Vec Expr Global) : Type 0 where
+  pub copy : whole_copy (value_of value) ≡ Some (copy_of made)
+  pub looks : look_value value ≡ look_whole made.0 made.1.items
+  pub held : is_held_value made.0 made.1.items ≡ true
 
 -- what is assigned to a target of a kind
 abbrev pub tested_as : Option TypeKind → Scalar

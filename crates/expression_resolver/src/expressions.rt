@@ -22,7 +22,7 @@ ghost use Rattle.expression_resolver.specs.Values.{AreTestedAlike, are_held_actu
 use crate::accesses::{
     accessed_value, begin, constant, enter, named_variable, select_field, set, text,
 };
-use crate::forms::{first_place, only};
+use crate::forms::{first_place, fits, only};
 use crate::input::{input_call, input_value};
 use crate::operators::{self, monadic};
 use crate::typed::{
@@ -322,10 +322,8 @@ fn index(
     let place = first_place(written);
     let site = typer.site(SiteKind::Index, place)?;
     let made = expression(typer, written, None)?;
-    if !may_index(typer.types(), element, made.typed()) {
-        return Err(TypeFault::Mismatch(place));
-    }
-    Ok((site, made.into_scalar()))
+    let site = fits(may_index(typer.types(), element, made.typed()), place, site);
+    made.scalar_with(site)
 }
 
 #[cycle(expressions)]
@@ -423,11 +421,12 @@ fn link(typer: &mut Typer, left: Typed, written: &syntax::Link) -> Result<(Link,
     let right = expression(typer, &written.operand, None)?;
     let value = result_of(written.operator, left.value, right.typed().value).ok_or(
         TypeFault::Mismatch(place),
-    )?;
+    );
+    let (value, operand) = right.scalar_with(value)?;
     let link = Link {
         number,
         operation,
-        operand: right.into_scalar(),
+        operand,
     };
     let site = left.site;
     Ok((link, Typed { value, site }))
@@ -580,8 +579,8 @@ fn first_member(
     ensures { MakesFirst (spec.first_member host (spec.expression written.now) typer.old) result typer.new }
 {
     let made = expression(typer, written, Some(SiteKind::SetMember))?;
-    let (site, type_id) = member_with_site(host, first_place(written), made.typed())?;
-    let value = made.into_scalar();
+    let member = member_with_site(host, first_place(written), made.typed());
+    let ((site, type_id), value) = made.scalar_with(member)?;
     Ok(SitedMember {
         site,
         type_id,
@@ -601,8 +600,8 @@ fn last_member(
     ensures held { IfOk result (λ made. is_ordinal_expr made.1 ≡ true) }
 {
     let made = expression(typer, written, None)?;
-    let type_id = member_of(host, first_place(written), made.typed())?;
-    Ok((type_id, made.into_scalar()))
+    let type_id = member_of(host, first_place(written), made.typed());
+    made.scalar_with(type_id)
 }
 
 // The call of a function: of one that the program declares, or of a required one.
@@ -647,8 +646,8 @@ fn required_call(
     let actual = only(name.place, actuals)?;
     let place = first_place(actual);
     let argument = expression(typer, actual, None)?;
-    let (operation, type_id) = typer.applied(function, does, place, argument.typed())?;
-    let operand = argument.into_scalar();
+    let applied = typer.applied(function, does, place, argument.typed());
+    let ((operation, type_id), operand) = argument.scalar_with(applied)?;
     monadic(typer.alloc, begun, operation, operand, type_id)
 }
 
@@ -916,8 +915,8 @@ fn passed_set(
     ensures held { IfOk result (λ made. is_held_passed made ≡ true) }
 {
     let made = expression(typer, written, Some(SiteKind::SetMember))?;
-    let fits = members_test(typer.types(), type_id, first_place(written), made.typed())?;
-    let value = made.into_scalar();
+    let fits = members_test(typer.types(), type_id, first_place(written), made.typed());
+    let (fits, value) = made.scalar_with(fits)?;
     Ok(Passed::Value { value, fits })
 }
 
@@ -974,8 +973,8 @@ pub fn fitted(
     let tests = tested_as(typer.types().kind(type_id));
     let site = typer.site(test_kind(tests), place)?;
     let made = expression(typer, written, None)?;
-    let range = fitting(typer.types(), type_id, made.typed()).ok_or(TypeFault::Mismatch(place))?;
-    let value = made.into_scalar();
+    let range = fitting(typer.types(), type_id, made.typed()).ok_or(TypeFault::Mismatch(place));
+    let (range, value) = made.scalar_with(range)?;
     let fits = RangeTest { site, tests, range };
     Ok(Fitted { value, fits })
 }
@@ -1003,8 +1002,6 @@ pub fn copied(
     ensures held { IfOk result (λ made. is_held_value made.0 (made.1).items ≡ true) }
 {
     let made = expression(typer, written, None)?;
-    if copying(typer.types(), type_id, made.typed()).is_none() {
-        return Err(TypeFault::Mismatch(place));
-    }
-    Ok(made.into_whole(typer.alloc))
+    let copy = copying(typer.types(), type_id, made.typed()).ok_or(TypeFault::Mismatch(place));
+    made.whole_with(typer.alloc, copy)
 }

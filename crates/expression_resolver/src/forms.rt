@@ -1,4 +1,5 @@
 ghost use Rattle.std.specs.Prelude.{◌≡◌, Ok, Err, IfOk, MatchResult, map};
+ghost use Rattle.typing_rules.specs.Checked.{fits};
 ghost use Rattle.typing.specs.Expressions as spec;
 ghost use Rattle.expression_resolver.specs.Made.{IsOnly};
 
@@ -41,4 +42,15 @@ pub(crate) fn only<'e, 'a>(
         return Err(TypeFault::WrongParameters(place));
     }
     Ok(&actual.value)
+}
+
+/// What is told where it fits: K1 at the place where it doesn't.
+pub(crate) fn fits<T: Copy>(test: bool, place: Place, told: T) -> Result<T, TypeFault>
+    ensures { result ≡ fits test place told }
+{
+    if test {
+        Ok(told)
+    } else {
+        Err(TypeFault::Mismatch(place))
+    }
 }

@@ -21,14 +21,15 @@ pub struct TypedExpr {
 }
 
 impl TypedExpr {
-    ghost use Rattle.std.specs.Prelude.{Some, IfOk, MatchResult, false, is_some};
+    ghost use Rattle.std.specs.Prelude.{Some, Ok, Err, IfOk, IsOk, MatchResult, false, is_some};
     ghost use Rattle.typed_tree.specs.declared.fault.TypeFault.TheVariants.{Mismatch};
     ghost use Rattle.typed_tree.specs.Kinds.{held_by, is_held, is_held_value};
     ghost use Rattle.typed_tree.specs.Look.{look_expr, look_whole};
     ghost use Rattle.typing_rules.specs.Typed.{is_of, is_scalar_value};
     ghost use Rattle.typing_rules.specs.Targets.{whole_copy};
     ghost use Rattle.expression_resolver.specs.Made.{typed_of};
-    ghost use Rattle.expression_resolver.specs.Values.{copy_of, look_value, scalar_of, value_of};
+    ghost use Rattle.expression_resolver.specs.Values.{IsScalarOf, IsWholeOf, copy_of, look_value, scalar_of};
+    ghost use Rattle.expression_resolver.specs.Values.{value_of};
 
     /// What it is.
     pub fn typed(&self) -> Typed
@@ -107,6 +108,42 @@ impl TypedExpr {
             }
             Value::Ordinal { .. } | Value::Set { .. } => unreachable!(),
         }
+    }
+
+    /// It with what is told of it, unless that is refused.
+    pub(crate) fn with<T: Drop>(
+        self,
+        told: Result<T, TypeFault>,
+    ) -> Result<(T, TypedExpr), TypeFault>
+        ensures { MatchResult result (λ made. (told ≡ Ok made.0) × (made.1 ≡ self)) (λ why. told ≡ Err why) }
+    {
+        let told = told?;
+        Ok((told, self))
+    }
+
+    /// The ordinal or the set that it is, with what is told of it, unless that is refused.
+    pub(crate) fn scalar_with<T: Drop>(
+        self,
+        told: Result<T, TypeFault>,
+    ) -> Result<(T, Expr), TypeFault>
+        requires scalar { IfOk told (λ one. is_scalar_value (value_of self.value) ≡ true) }
+        ensures { MatchResult result (λ made. (told ≡ Ok made.0) × IsScalarOf self.value made.1) (λ why. told ≡ Err why) }
+    {
+        let (told, made) = self.with(told)?;
+        Ok((told, made.into_scalar()))
+    }
+
+    /// The structured value that it is, with its index expressions, unless what is told of it is refused.
+    pub(crate) fn whole_with<T: Drop>(
+        self,
+        alloc: Global,
+        told: Result<T, TypeFault>,
+    ) -> Result<(Whole, Vec<Expr>), TypeFault>
+        requires structured { IfOk told (λ one. is_some (whole_copy (value_of self.value)) ≡ true) }
+        ensures { MatchResult result (λ made. IsOk told × IsWholeOf self.value made) (λ why. told ≡ Err why) }
+    {
+        let (_, made) = self.with(told)?;
+        Ok(made.into_whole(alloc))
     }
 
     /// The ordinal that it is, of this type: K1 at the place where it is none.

@@ -38,6 +38,8 @@ use Rattle.expression_resolver.proofs.Actuals.{ArePassedFrom, one_held, one_pass
 use Rattle.expression_resolver.proofs.Calls.{value_by_host}
 use Rattle.expression_resolver.proofs.PassedForms.{access_goes, no_width, ordinal_goes, other_kind}
 use Rattle.expression_resolver.proofs.PassedForms.{variable_made}
+use Rattle.expression_resolver.proofs.Scalars.{told_some}
+use Rattle.typed_tree.specs.declared.fault.TypeFault.TheVariants.{Mismatch}
 use Rattle.expression_resolver.proofs.expressions.+expressions.Goals as goal
 use Rattle.expression_resolver.proofs.expressions.+expressions.Goals.{members-in-Single+in_ok-single-in-Single}
 use Rattle.expression_resolver.proofs.expressions.+expressions.Goals.{members-in-Range+in-Some-get+in_ok-first-in-Range+in_ok-range-in-Range}
@@ -292,13 +294,13 @@ fitted-returns-clause-held t c =
     let value = value_of c.in_ok-made.made.value in
     let target = c.args.type_id in
     let new = c.expression.new.typer in
-    let fits : fitting_value new.types target value ≡ Some c.in_ok-range.range = search rules in
+    let fits = told_some (fitting_value new.types target value) (Mismatch c.args.place) c.in_ok-range.range (search rules) in
     let tests : c.tested_as-tests.result ≡ tested_as (kind_of c.args.typer.now.types target) = search rules in
     let kind = (fitting_kind new.types target c.in_ok-range.range value fits).1 in
     let alike = tested_alike c.args.written.now None (typed_of c.in_ok-made.made) (look_value c.in_ok-made.made.value) c.site.new.self new
     c.in_ok-made.ensures target in
     let first = site_alike c.test_kind.result c.args.place c.in_ok-site.site c.args.typer.now c.site.new.self c.in_ok-site.ensures.taken target in
-    held_as c.tested_as-tests.result value (held_by c.into_scalar-value.result) (kind ∙ alike ∙ first ∙ sym tests) c.into_scalar-value.ensures.held
+    held_as c.tested_as-tests.result value (held_by c.in_ok-range.value) (kind ∙ alike ∙ first ∙ sym tests) c.in_ok-range.ensures.1.held
 
 pub passed_set-returns-clause-held : goal.passed_set-returns-clause-held
 passed_set-returns-clause-held t c =
@@ -309,8 +311,8 @@ passed_set-returns-clause-held t c =
     let kind = (fitting_kind new.types c.args.type_id c.in_ok-fits.fits.range value told.1).1 in
     let alike = tested_alike c.args.written.now (Some SetMember) (typed_of c.in_ok-made.made) (look_value c.in_ok-made.made.value) c.args.typer.now new
     c.in_ok-made.ensures c.args.type_id in
-    held_passed_value c.into_scalar-value.result c.in_ok-fits.fits
-    ∙ held_as c.in_ok-fits.fits.tests value (held_by c.into_scalar-value.result) (kind ∙ alike ∙ c.requires ∙ sym told.0) c.into_scalar-value.ensures.held
+    held_passed_value c.in_ok-fits.value c.in_ok-fits.fits
+    ∙ held_as c.in_ok-fits.fits.tests value (held_by c.in_ok-fits.value) (kind ∙ alike ∙ c.requires ∙ sym told.0) c.in_ok-fits.ensures.1.held
 
 -- by the kind of the formal parameter's type
 pub passed_value-returns-in-Some-Set-clause-made : goal.passed_value-returns-in-Some-Set-clause-made
@@ -336,12 +338,13 @@ passed_value-returns-in-None-clause-made t c = λ callee position.
 pub link-returns-clause-held : goal.link-returns-clause-held
 link-returns-clause-held t c =
     let right = value_of c.in_ok-right.right.value in
-    let gives : result_of (out-Link c.args.written.now).operator c.args.left.value right ≡ Some c.in_ok-value.value = search rules in
-    made_link (record { number = c.in_ok-number.number; operation = c.in_ok-operation.operation; operand = c.into_scalar.result }) c.args.left.value right
+    let gives = told_some (result_of (out-Link c.args.written.now).operator c.args.left.value right) (Mismatch (out-Link c.args.written.now).place)
+    c.in_ok-value.value (search rules) in
+    made_link (record { number = c.in_ok-number.number; operation = c.in_ok-operation.operation; operand = c.in_ok-value.operand }) c.args.left.value right
     c.in_ok-value.value
     (links_of (out-Link c.args.written.now).operator (out-Link c.args.written.now).place c.args.typer.now c.in_ok-operation.operation []
     c.operation_behind.new.self c.in_ok-value.value c.args.left.value right c.in_ok-operation.ensures gives)
-    c.into_scalar.ensures.held
+    c.in_ok-value.ensures.1.held
 
 pub links-loop-written-preserved : goal.links-loop-written-preserved
 links-loop-written-preserved t c =
