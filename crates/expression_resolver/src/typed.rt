@@ -127,7 +127,8 @@ impl TypedExpr {
         told: Result<T, TypeFault>,
     ) -> Result<(T, Expr), TypeFault>
         requires scalar { IfOk told (λ one. is_scalar_value (value_of self.value) ≡ true) }
-        ensures { MatchResult result (λ made. (told ≡ Ok made.0) × IsScalarOf self.value made.1) (λ why. told ≡ Err why) }
+        ensures { MatchResult result (λ made. (told ≡ Ok made.0) × IsScalarOf self.value made.1)
+            (λ why. told ≡ Err why) }
     {
         let (told, made) = self.with(told)?;
         Ok((told, made.into_scalar()))
