@@ -267,6 +267,26 @@ class Marks(html.parser.HTMLParser):
             self.marks[-1][1] += data
 
 
+class Overwritten(RecordsCase):
+    """No file that holds something else is written over."""
+
+    def test_other_files(self):
+        for option in ("--html", "--sarif"):
+            self.assertIn(b"silent.pas is no ", self.explain(option, "silent.pas", "open.pas"))
+            self.assertIn(b"open.pas is no ", self.explain(option, "open.pas"))
+            for name in ("silent", "open"):
+                self.assertEqual(taken(self.folder, f"{name}.pas"), SOURCES[name])
+
+    def test_the_same_file_again(self):
+        for option in ("--html", "--sarif"):
+            for name in ("silent", "open"):
+                self.assertNotIn(b"isn't overwritten", self.explain(option, f"a{option}", f"{name}.pas"))
+            self.assertIn(b"open.pas", taken(self.folder, f"a{option}"))
+            put(self.folder, "empty", b"")
+            self.explain(option, "empty", "open.pas")
+            self.assertIn(b"open.pas", taken(self.folder, "empty"))
+
+
 class Html(RecordsCase):
     def page(self, *words):
         self.explain("--html", "a.html", *words)
