@@ -174,10 +174,14 @@ class Knowledge:
         if of_type == "0":
             return str(number)
         if of_type == "'a'":
-            return f"'{chr(number)}'" if 32 <= number < 127 else f"chr({number})"
+            return repr_of(chr(number)) if 32 <= number < 127 else f"chr({number})"
         rows = [["false", "true"], *self.enumerations]
         row = next((row for row in rows if of_type in row), [])
         return row[number] if 0 <= number < len(row) else f"value {number}"
+
+
+def repr_of(character):
+    return "'" + character.replace("'", "''") + "'"
 
 
 class Search:

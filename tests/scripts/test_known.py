@@ -195,6 +195,16 @@ end.
         for place in known:
             self.assertEqual(found[place], known[place])
 
+    def test_apostrophe(self):
+        text = b"""program p(input, output);
+var c: char; n: integer;
+begin
+  read(c, n);
+  if (c >= '''') and (c <= '.') then n := n + ord(c)
+end.
+"""
+        self.assertIn("c lies in ''''..'.'", [one for known in self.known(text).values() for one in known])
+
     def test_first_sites_alone(self):
         lines = "".join(f"  n := n + {number};\n" for number in range(15))
         text = f"program p(input, output);\nvar n: integer;\nbegin\n  read(n);\n{lines}end.\n".encode()
