@@ -11,13 +11,17 @@ import unittest
 
 TOP = os.path.dirname(os.path.dirname(os.path.dirname(os.path.abspath(__file__))))
 PROGRAM = os.environ["PCOM"]
-sys.path.insert(0, os.path.join(TOP, "bin"))
+sys.path[:0] = [os.path.join(TOP, "bin"), os.path.join(TOP, "tests")]
 
+from case_files import read_cases
+from pcom_lines import Files
 from tools import pascal
 from tools.declarations import Declarations
-from tools.facts import Words
+from tools.facts import Words, facts
 
 SECONDS = 60
+# Which cases are taken, and how long their sources are.
+EACH, MOST_BYTES = 13, 20000
 HEADS = {"at each call": "entry", "at its end": "exit", "at each turn": "fact"}
 # Names that stand in several blocks, headings with `forward`, records, and blocks in blocks.
 FORMS = b"""program forms(input, output);
@@ -159,6 +163,18 @@ class Facts(FactsCase):
             if os.path.exists(given):
                 count += self.assert_read_back(path, "--cert", given)
         self.assertGreater(count, 200)
+
+    def test_cases(self):
+        """The same of programs of tests/cases, which have forms that no other has; one in so many."""
+        count = 0
+        for case in read_cases()[0][::EACH]:
+            if case.source and len(case.source) < MOST_BYTES:
+                said = facts(Files(self.put(case.source)))
+                if said is not None:
+                    read = Reader(case.source.decode(pascal.ENCODING)).sections("\n".join(said))
+                    self.assertEqual(read, sections_of(self.certificate(self.path("a.pas"))), case.name)
+                    count += 1
+        self.assertGreater(count, 50)
 
     def test_words(self):
         text = b"program p;\nvar i, n: integer;\nbegin\n  n := 0;\n  for i := 1 to 9 do\n    n := i\nend.\n"

@@ -14,14 +14,18 @@ import unittest
 
 TOP = os.path.dirname(os.path.dirname(os.path.dirname(os.path.abspath(__file__))))
 PROGRAM = os.environ["PCOM"]
-sys.path.insert(0, os.path.join(TOP, "bin"))
+sys.path[:0] = [os.path.join(TOP, "bin"), os.path.join(TOP, "tests")]
 
+from case_files import read_cases
 from pcom_lines import Files, message_of
 from tools import pascal
 from tools.asking import Asker
 from tools.known import Knowledge, known_at_sites
 
 SECONDS = 60
+MAXINT = 2147483647
+# Which cases are taken, and how long their sources are.
+EACH, MOST_BYTES = 13, 2000
 FORMS = b"""program forms(input, output);
 type
   color = (red, green, blue);
@@ -151,7 +155,8 @@ class Known(unittest.TestCase):
             with self.subTest(path=os.path.basename(path), operand=operand.written, known=known):
                 self.assertFalse(store.is_told(known.least, known.greatest, self.folder))
                 if known.least == known.greatest:
-                    self.assertTrue(store.is_told(known.least + 1, known.least + 1, self.folder))
+                    other = known.least - 1 if known.least == MAXINT else known.least + 1
+                    self.assertTrue(store.is_told(other, other, self.folder))
                 else:
                     self.assertTrue(store.is_told(known.least + 1, known.greatest, self.folder))
                     self.assertTrue(store.is_told(known.least, known.greatest - 1, self.folder))
@@ -163,6 +168,15 @@ class Known(unittest.TestCase):
         for path in sorted(glob.glob(os.path.join(TOP, "examples", "**", "*.pas"), recursive=True)):
             count += self.assert_just(path)
         self.assertGreaterEqual(count, 25)
+
+    def test_ranges_in_cases(self):
+        """The same of programs of tests/cases, which have forms that no other has; one in so many."""
+        count = 0
+        for case in read_cases()[0][::EACH]:
+            if case.source and len(case.source) < MOST_BYTES:
+                path = self.put(case.source)
+                count += self.assert_just(path) if not any("refused" in line for line in ran(path)) else 0
+        self.assertGreater(count, 25)
 
     def known(self, text, most=10):
         return known_at_sites(Files(self.put(text)), most)
