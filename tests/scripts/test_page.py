@@ -146,12 +146,16 @@ class Browser(PageCase):
         self.assertTrue(self.text_of("#certificate").startswith("pcert 1\n"))
         self.assertIn("It isn't proved", self.text_of("#about"))
         self.assertEqual(self.text_of("mark.told"), "case|+")
+        # The marks lie behind the text, place for place.
+        heights = self.value_of("['marks', 'text'].map((name) => document.getElementById(name).offsetHeight).join()")
+        self.assertEqual(*heights.split(","))
 
     def text_of(self, selector):
         """The text of what is shown."""
-        expression = f"[...document.querySelectorAll({selector!r})].map((one) => one.textContent).join('|')"
-        answer = self.ask("Runtime.evaluate", self.session, expression=expression)
-        return answer["result"].get("value", "")
+        return self.value_of(f"[...document.querySelectorAll({selector!r})].map((one) => one.textContent).join('|')")
+
+    def value_of(self, expression):
+        return self.ask("Runtime.evaluate", self.session, expression=expression)["result"].get("value", "")
 
 
 class Quiet(http.server.SimpleHTTPRequestHandler):
