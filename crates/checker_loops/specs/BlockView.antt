@@ -1,4 +1,4 @@
--- What is claimed of blocks, and how a block begins, as the definitions see them. It does not say what is known of them.
+-- What is claimed of blocks, and how a block begins, as the definitions see them. Not what is known of them.
 use Rattle.std.specs.Prelude.{ℕ, suc, ◌≡◌, ◌<◌, ◌++◌, List, [], ◌∷◌, Option, Some, None, get_or, if◌then◌else◌, length}
 use Rattle.std.specs.Prelude.{map, min, nat_eq, slice_get, slice_set}
 use denote.Ref.{Bor}
