@@ -54,33 +54,39 @@ pub(crate) struct Analysis<'a> {
 }
 
 impl<'a> Analysis<'a> {
-    /// Before the first round.
-    pub(crate) fn new(
-        alloc: Global,
-        walk: Walk<'a>,
-        course: &'a Course,
-        proposed: Proposed,
-    ) -> Result<Analysis<'a>, AllocError> {
-        let blocks = walk.flow.grounds.sections.len();
-        let mut analysis = Analysis {
+    /// Before the first round, where no facts stand.
+    pub(crate) fn new(alloc: Global, walk: Walk<'a>, course: &'a Course) -> Analysis<'a> {
+        Analysis {
             walk,
             course,
-            entries: tables(alloc, &proposed.entries)?,
-            exits: tables(alloc, &proposed.exits)?,
-            loops: tables(alloc, &proposed.loops)?,
+            entries: Vec::new(alloc),
+            exits: Vec::new(alloc),
+            loops: Vec::new(alloc),
             heads: Vec::new(alloc),
-            due: vec![in alloc; false; blocks]?,
-            walked: vec![in alloc; false; blocks]?,
+            due: Vec::new(alloc),
+            walked: Vec::new(alloc),
             next: 0,
             narrows: false,
             spare: Vec::new(alloc),
-        };
-        analysis.keep(proposed);
-        Ok(analysis)
+        }
     }
 
-    // Facts stand from here on where blocks begin and end, and at the heads of loops.
-    fn keep(&mut self, facts: Proposed) {
+    /// Makes room for facts.
+    ///
+    /// # Errors
+    /// No memory.
+    pub(crate) fn make_room(&mut self, alloc: Global, facts: &Proposed) -> Result<(), AllocError> {
+        let blocks = self.walk.flow.grounds.sections.len();
+        self.entries = tables(alloc, &facts.entries)?;
+        self.exits = tables(alloc, &facts.exits)?;
+        self.loops = tables(alloc, &facts.loops)?;
+        self.due = vec![in alloc; false; blocks]?;
+        self.walked = vec![in alloc; false; blocks]?;
+        Ok(())
+    }
+
+    /// Facts stand from here on where blocks begin and end, and at the heads of loops.
+    pub(crate) fn keep(&mut self, facts: Proposed) {
         let Proposed {
             mut entries,
             mut exits,
@@ -98,21 +104,16 @@ impl<'a> Analysis<'a> {
 
     /// The facts that stand.
     pub(crate) fn take(&mut self, alloc: Global) -> Result<Proposed, AllocError> {
-        let mut entries = Vec::new(alloc);
-        let mut exits = Vec::new(alloc);
-        for section in self.walk.flow.grounds.sections.iter_mut() {
-            let mut start = Vec::new(alloc);
-            let mut end = Vec::new(alloc);
-            exchange(&mut section.start, &mut start);
-            exchange(&mut section.end, &mut end);
-            entries.push(start)?;
-            exits.push(end)?;
-        }
-        Ok(Proposed {
-            entries,
-            exits,
+        let mut facts = Proposed {
+            entries: Vec::new(alloc),
+            exits: Vec::new(alloc),
             loops: mem::replace(&mut self.heads, Vec::new(alloc)),
-        })
+        };
+        for section in self.walk.flow.grounds.sections.iter_mut() {
+            facts.entries.push(taken(alloc, &mut section.start))?;
+            facts.exits.push(taken(alloc, &mut section.end))?;
+        }
+        Ok(facts)
     }
 
     /// Whether memory ran out.

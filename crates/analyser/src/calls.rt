@@ -5,67 +5,120 @@ use analyser_plan::events::Event;
 use cert_checker::blocks::begin;
 use checker_calls::actuals::{Actual, Bindings, settle};
 use checker_expressions::visits::Visits;
-use checker_trail::State;
+use checker_trail::{Mark, State};
+use std::alloc::AllocError;
 use std::mem;
 use typed_tree::calls::actuals_hold_call;
-use typed_tree::tree::{Call, Passed};
+use typed_tree::tree::{Call, FunctionResult, Passed};
 
 /// How many statements may stand in one another where a walk begins from a call: more than a block's may, of which at
 /// most 128 do.
 pub(crate) const WALK: u32 = 400;
 
+/// Where the walk was before it came to a block from a call.
+#[derive(Drop)]
+struct Caller<'a> {
+    /// What is known there.
+    state: State<'a>,
+    /// The block there.
+    block: u32,
+    /// Where the walk over the called block began.
+    mark: Mark,
+}
+
 impl<'a> Analysis<'a> {
-    /// Goes through the calls among events, and gives whether all of them come back, as far as is known. What is known
-    /// where the walk is stays as it was.
+    /// Goes through the calls among events, if there was memory for these, and gives whether all of them come back, as
+    /// far as is known. What is known where the walk is stays as it was.
     #[cycle(statement)]
-    pub(crate) fn calls(&mut self, events: &[Event], left: u32, visits: &mut Visits) -> bool {
-        let mark = self.walk.flow.state.mark();
+    pub(crate) fn calls_among(
+        &mut self,
+        events: Result<Vec<Event>, AllocError>,
+        left: u32,
+        visits: &mut Visits,
+    ) -> bool {
+        match events {
+            Ok(events) => self.calls(&events, left, visits),
+            Err(_) => {
+                self.run_short();
+                true
+            }
+        }
+    }
+
+    #[cycle(statement)]
+    fn calls(&mut self, events: &[Event], left: u32, visits: &mut Visits) -> bool {
+        let mark = self.mark();
         for event in events {
             if let Event::Call { call, actuals } = event {
                 self.enter(*call, actuals, left, visits);
-                self.walk.flow.call(*call, actuals, visits);
-                self.die_unless_left(*call);
+                self.leave_call(*call, actuals, visits);
             }
         }
-        let come_back = !self.walk.flow.state.is_dead();
-        let _calls = self.walk.flow.state.leave(mark);
+        let come_back = !self.state().is_dead();
+        self.go_back(mark);
         come_back
     }
 
     // What is known comes to where a called block begins.
     #[cycle(statement)]
     fn enter(&mut self, call: Call, actuals: &[Passed], left: u32, visits: &mut Visits) {
-        let mut passed = self.walk.flow.actuals(actuals, visits);
-        settle(actuals_hold_call(actuals), &mut passed);
-        let bindings = bound(self.parameters(call), &passed);
-        self.arrive_at_entry(call.block as usize, bindings);
-        let is_due = self.is_due(call.block as usize);
+        let is_due = self.come_to(call, actuals, visits);
         match left.checked_sub(WALK) {
             Some(left) if is_due => self.visit(call.block, left, visits),
             _ => {}
         }
     }
 
+    // The same, without a walk there. Whether the block has to be walked.
+    fn come_to(&mut self, call: Call, actuals: &[Passed], visits: &mut Visits) -> bool {
+        let mut passed = self.walk.flow.actuals(actuals, visits);
+        settle(actuals_hold_call(actuals), &mut passed);
+        let bindings = bound(self.parameters(call), &passed);
+        self.arrive_at_entry(call.block as usize, bindings);
+        self.is_due(call.block as usize)
+    }
+
+    // Goes on behind a call. No run comes behind that of a block whose end isn't reached yet.
+    fn leave_call(&mut self, call: Call, actuals: &[Passed], visits: &mut Visits) {
+        self.walk.flow.call(call, actuals, visits);
+        if let Some(table) = self.exits.get(call.block as usize) {
+            let is_reached = table.is_reached;
+            self.die_unless(is_reached);
+        }
+    }
+
     /// Walks over a block, from what is known where it begins.
     #[cycle(statement)]
     pub(crate) fn visit(&mut self, number: u32, left: u32, visits: &mut Visits) {
-        let tree = self.walk.flow.state.table().tree();
-        let Some(block) = tree.blocks.get(number as usize) else {
+        let Some(block) = self.block(number) else {
             return;
         };
-        let spare = self.spare_state();
-        let caller = mem::replace(&mut self.walk.flow.state, spare);
-        let around = mem::replace(&mut self.walk.flow.grounds.block, number);
-        self.set_walked(number as usize, true);
-        let mark = self.walk.flow.state.mark();
-        begin(&mut self.walk.flow, number, &self.course.declared);
+        let caller = self.begin_visit(number);
         self.statement(&block.body, left, visits);
-        self.walk.use_result(block.heading.result);
+        self.end_visit(number, block.heading.result, caller);
+    }
+
+    // Goes on where a block begins. Where the walk was before.
+    fn begin_visit(&mut self, number: u32) -> Caller<'a> {
+        let spare = self.spare_state();
+        self.set_walked(number as usize, true);
+        let flow = &mut self.walk.flow;
+        let state = mem::replace(&mut flow.state, spare);
+        let block = mem::replace(&mut flow.grounds.block, number);
+        let mark = flow.state.mark();
+        begin(flow, number, &self.course.declared);
+        Caller { state, block, mark }
+    }
+
+    // What is known comes to the end of a block, and the walk goes on where it was before.
+    fn end_visit(&mut self, number: u32, function: Option<FunctionResult>, caller: Caller<'a>) {
+        self.walk.use_result(function);
         self.arrive_at_exit(number as usize);
-        let _end = self.walk.flow.state.leave(mark);
+        self.go_back(caller.mark);
         self.set_walked(number as usize, false);
-        self.walk.flow.grounds.block = around;
-        let spare = mem::replace(&mut self.walk.flow.state, caller);
+        let flow = &mut self.walk.flow;
+        flow.grounds.block = caller.block;
+        let spare = mem::replace(&mut flow.state, caller.state);
         self.give_back(spare);
     }
 
@@ -86,26 +139,9 @@ impl<'a> Analysis<'a> {
 
     // The root numbers of the formal parameters of a routine that is called.
     fn parameters(&self, call: Call) -> &'a [u32] {
-        match self
-            .walk
-            .flow
-            .state
-            .table()
-            .tree()
-            .blocks
-            .get(call.block as usize)
-        {
+        match self.block(call.block) {
             None => &[],
             Some(block) => &block.heading.parameters,
-        }
-    }
-
-    // No run comes behind a call of a block whose end isn't reached yet.
-    fn die_unless_left(&mut self, call: Call) {
-        if let Some(table) = self.exits.get(call.block as usize) {
-            if !table.is_reached {
-                self.walk.flow.state.die();
-            }
         }
     }
 
@@ -114,7 +150,7 @@ impl<'a> Analysis<'a> {
         match self.spare.pop() {
             Some(state) => state,
             None => {
-                let state = &self.walk.flow.state;
+                let state = self.state();
                 State::of_types(state.alloc(), state.table())
             }
         }
@@ -124,7 +160,7 @@ impl<'a> Analysis<'a> {
     fn give_back(&mut self, state: State<'a>) {
         self.walk.flow.open_ids.clear();
         if state.is_short() || self.spare.push(state).is_err() {
-            self.walk.flow.state.run_short();
+            self.run_short();
         }
     }
 }

@@ -14,6 +14,7 @@ mod loops;
 mod outcome;
 mod rounds;
 mod statements;
+mod ways;
 
 use crate::accepting::accepted;
 use crate::analysis::{Analysis, Course, Proposed};
@@ -108,7 +109,9 @@ fn given_facts(
     let claims = all_claims(alloc, tree, frame)?;
     let aliases = all_loop_aliases(alloc, tree, &grounds.pairs, &claims)?;
     let walk = Walk::new(State::of_types(alloc, rows), grounds, &claims, &aliases);
-    let mut analysis = Analysis::new(alloc, walk, course, proposed)?;
+    let mut analysis = Analysis::new(alloc, walk, course);
+    analysis.make_room(alloc, &proposed)?;
+    analysis.keep(proposed);
     analysis.run(visits);
     if analysis.is_short() {
         return Err(AllocError);

@@ -1,6 +1,7 @@
 use crate::analysis::Analysis;
 use checker_expressions::visits::Visits;
 use checker_loops::claims::claim_facts;
+use checker_trail::Mark;
 use checker_ways::ways::Way;
 use typed_tree::tree::{ForHead, LoopHead, Stmt};
 
@@ -19,11 +20,11 @@ impl<'a> Analysis<'a> {
         visits: &mut Visits,
     ) {
         for _ in 0..REPEATS {
-            let mark = self.walk.flow.state.mark();
+            let mark = self.mark();
             if !self.while_turn(head, body, left, visits) {
                 return;
             }
-            let _round = self.walk.flow.state.leave(mark);
+            self.go_back(mark);
         }
         if self.while_turn(head, body, left, visits) {
             self.make_own_due();
@@ -36,12 +37,11 @@ impl<'a> Analysis<'a> {
         visits.tick(head.number);
         self.enter_loop(head.loop_number, None);
         let known = self.value(&head.condition, left, visits);
-        let mark = self.walk.flow.state.mark();
-        self.walk.go_where(&head.condition, &known, true);
+        let mark = self.mark();
+        self.go_where(&head.condition, &known, true);
         self.statement(body, left, visits);
-        let moved = self.arrive_at_loop(head.loop_number, true);
-        let _turn = self.walk.flow.state.leave(mark);
-        self.walk.go_where(&head.condition, &known, false);
+        let moved = self.leave_turn(head.loop_number, mark);
+        self.go_where(&head.condition, &known, false);
         moved
     }
 
@@ -55,11 +55,11 @@ impl<'a> Analysis<'a> {
         visits: &mut Visits,
     ) {
         for _ in 0..REPEATS {
-            let mark = self.walk.flow.state.mark();
+            let mark = self.mark();
             if !self.repeat_turn(head, statements, left, visits) {
                 return;
             }
-            let _round = self.walk.flow.state.leave(mark);
+            self.go_back(mark);
         }
         if self.repeat_turn(head, statements, left, visits) {
             self.make_own_due();
@@ -79,11 +79,10 @@ impl<'a> Analysis<'a> {
         self.enter_loop(head.loop_number, None);
         self.statements(statements, left, visits);
         let known = self.value(&head.condition, left, visits);
-        let mark = self.walk.flow.state.mark();
-        self.walk.go_where(&head.condition, &known, false);
-        let moved = self.arrive_at_loop(head.loop_number, true);
-        let _turn = self.walk.flow.state.leave(mark);
-        self.walk.go_where(&head.condition, &known, true);
+        let mark = self.mark();
+        self.go_where(&head.condition, &known, false);
+        let moved = self.leave_turn(head.loop_number, mark);
+        self.go_where(&head.condition, &known, true);
         moved
     }
 
@@ -92,17 +91,29 @@ impl<'a> Analysis<'a> {
     pub(crate) fn for_loop(&mut self, head: &ForHead, body: &Stmt, left: u32, visits: &mut Visits) {
         let from = self.value(&head.first.value, left, visits);
         let to = self.value(&head.last.value, left, visits);
-        let way = Way::of(self.walk.flow.state.table(), head, from, to);
-        let mark = self.walk.flow.state.mark();
-        way.relate(&mut self.walk.flow.state, true);
-        let tested = self.walk.tested_way(&way);
-        self.walk.begin_way(&tested);
-        let steady = self.walk.steady_in(head.loop_number, &tested);
+        let way = Way::of(self.state().table(), head, from, to);
+        let mark = self.mark();
+        let steady = self.begin_turns(head.loop_number, &way);
         self.for_turns(head, body, &steady, left, visits);
-        let turns = self.walk.flow.state.leave(mark);
-        way.relate(&mut self.walk.flow.state, false);
-        self.walk.flow.state.join_behind(mark, &turns);
-        self.walk.flow.state.undefine(way.control);
+        self.leave_turns(mark, &way);
+    }
+
+    // Goes on where a for has turns. The way of these.
+    fn begin_turns(&mut self, number: u32, way: &Way) -> Way {
+        let walk = &mut self.walk;
+        way.relate(&mut walk.flow.state, true);
+        let tested = walk.tested_way(way);
+        walk.begin_way(&tested);
+        walk.steady_in(number, &tested)
+    }
+
+    // Goes on behind a for, from the ends of its turns and from where it has none.
+    fn leave_turns(&mut self, mark: Mark, way: &Way) {
+        let state = &mut self.walk.flow.state;
+        let turns = state.leave(mark);
+        way.relate(state, false);
+        state.join_behind(mark, &turns);
+        state.undefine(way.control);
     }
 
     // Its turns.
@@ -116,11 +127,11 @@ impl<'a> Analysis<'a> {
         visits: &mut Visits,
     ) {
         for _ in 0..REPEATS {
-            let mark = self.walk.flow.state.mark();
+            let mark = self.mark();
             if !self.for_turn(head, body, way, left, visits) {
                 return;
             }
-            let _round = self.walk.flow.state.leave(mark);
+            self.go_back(mark);
         }
         if self.for_turn(head, body, way, left, visits) {
             self.make_own_due();
@@ -138,14 +149,30 @@ impl<'a> Analysis<'a> {
         visits: &mut Visits,
     ) -> bool {
         visits.tick(head.number);
-        self.enter_loop(head.loop_number, Some(way.control));
-        way.begin_turn(&mut self.walk.flow.state);
+        self.begin_turn(head.loop_number, way);
         self.statement(body, left, visits);
-        let mark = self.walk.flow.state.mark();
+        self.end_turn(head.loop_number, way)
+    }
+
+    // Goes on where a turn of a for begins.
+    fn begin_turn(&mut self, number: u32, way: &Way) {
+        self.enter_loop(number, Some(way.control));
+        way.begin_turn(&mut self.walk.flow.state);
+    }
+
+    // Goes on behind a for, from the end of a turn. Whether that moved what is known at its head.
+    fn end_turn(&mut self, number: u32, way: &Way) -> bool {
+        let mark = self.mark();
         way.end_turn(&mut self.walk.flow.state);
-        let moved = self.arrive_at_loop(head.loop_number, true);
-        let _turn = self.walk.flow.state.leave(mark);
+        let moved = self.leave_turn(number, mark);
         way.leave(&mut self.walk.flow.state);
+        moved
+    }
+
+    // A turn ends, and the walk goes back to a mark. Whether it moved what is known at the loop's head.
+    fn leave_turn(&mut self, number: u32, mark: Mark) -> bool {
+        let moved = self.arrive_at_loop(number, true);
+        self.go_back(mark);
         moved
     }
 
@@ -158,9 +185,10 @@ impl<'a> Analysis<'a> {
     fn enter_loop(&mut self, number: u32, control: Option<u32>) {
         let _moved = self.arrive_at_loop(number, false);
         let round = self.walk.round(number, control);
-        round.head(&mut self.walk.flow.state);
+        let state = &mut self.walk.flow.state;
+        round.head(state);
         if let Some(facts) = self.heads.get(number as usize) {
-            claim_facts(&mut self.walk.flow.state, facts);
+            claim_facts(state, facts);
         }
     }
 }

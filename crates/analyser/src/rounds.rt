@@ -2,6 +2,7 @@
 
 use crate::analysis::Analysis;
 use crate::calls::WALK;
+use analyser_tables::Table;
 use checker_expressions::visits::Visits;
 use checker_loops::sections::Facts;
 
@@ -30,15 +31,19 @@ impl<'a> Analysis<'a> {
     // Walks over blocks that are due, the lowest first, until none is.
     fn ascend(&mut self, visits: &mut Visits) {
         for _ in 0..self.due.len().saturating_mul(MOST) {
-            let from = self.next.min(self.due.len());
-            match self.due[from..].iter().position(|is_due| *is_due) {
-                None => return,
-                Some(place) => {
-                    self.next = from + place;
-                    self.visit_alone(from + place, visits);
-                }
-            }
+            let Some(number) = self.next_due() else {
+                return;
+            };
+            self.next = number;
+            self.visit_alone(number, visits);
         }
+    }
+
+    // The lowest block that is due.
+    fn next_due(&self) -> Option<usize> {
+        let from = self.next.min(self.due.len());
+        let place = self.due[from..].iter().position(|is_due| *is_due)?;
+        Some(from + place)
     }
 
     // Walks over a block from no call.
@@ -75,17 +80,54 @@ impl<'a> Analysis<'a> {
             self.visit_alone(number, visits);
         }
         self.narrows = false;
-        let mut has_moved = self.narrow_blocks();
-        let tree = self.walk.flow.state.table().tree();
-        for number in 0..self.loops.len() {
-            let (Some(table), Some(facts), Some(one)) = (
-                self.loops.get_mut(number),
-                self.heads.get_mut(number),
-                tree.loops.get(number),
-            ) else {
-                continue;
-            };
-            if table.narrow(facts) {
+        let blocks_moved = self.narrow_blocks();
+        let loops_moved = self.narrow_loops();
+        blocks_moved || loops_moved
+    }
+
+    // The same where blocks begin and end.
+    fn narrow_blocks(&mut self) -> bool {
+        let mut has_moved = false;
+        for number in 0..self.due.len() {
+            let starts_moved = self.narrow_start(number);
+            let ends_moved = self.narrow_end(number);
+            has_moved = has_moved || starts_moved || ends_moved;
+        }
+        has_moved
+    }
+
+    // The same where a block begins.
+    fn narrow_start(&mut self, number: usize) -> bool {
+        let sections = &mut self.walk.flow.grounds.sections;
+        let has_moved = match (self.entries.get_mut(number), sections.get_mut(number)) {
+            (Some(table), Some(section)) => narrow_facts(table, &mut section.start),
+            _ => false,
+        };
+        if has_moved {
+            self.make_due(number);
+        }
+        has_moved
+    }
+
+    // The same where it ends.
+    fn narrow_end(&mut self, number: usize) -> bool {
+        let sections = &mut self.walk.flow.grounds.sections;
+        let has_moved = match (self.exits.get_mut(number), sections.get_mut(number)) {
+            (Some(table), Some(section)) => narrow_facts(table, &mut section.end),
+            _ => false,
+        };
+        if has_moved {
+            self.make_callers_due(number);
+        }
+        has_moved
+    }
+
+    // The same at the heads of loops.
+    fn narrow_loops(&mut self) -> bool {
+        let tree = self.state().table().tree();
+        let mut has_moved = false;
+        for (number, one) in tree.loops.iter().enumerate() {
+            if self.narrow_loop(number) {
                 has_moved = true;
                 self.make_due(one.block as usize);
             }
@@ -93,33 +135,19 @@ impl<'a> Analysis<'a> {
         has_moved
     }
 
-    // The same where blocks begin and end.
-    fn narrow_blocks(&mut self) -> bool {
-        let mut has_moved = false;
-        for number in 0..self.due.len() {
-            let (Some(entry), Some(exit), Some(section)) = (
-                self.entries.get_mut(number),
-                self.exits.get_mut(number),
-                self.walk.flow.grounds.sections.get_mut(number),
-            ) else {
-                continue;
-            };
-            let mut starts_moved = false;
-            let mut ends_moved = false;
-            if let Facts::Kept(facts) = &mut section.start {
-                starts_moved = entry.narrow(facts);
-            }
-            if let Facts::Kept(facts) = &mut section.end {
-                ends_moved = exit.narrow(facts);
-            }
-            if starts_moved {
-                self.make_due(number);
-            }
-            if ends_moved {
-                self.make_callers_due(number);
-            }
-            has_moved = has_moved || starts_moved || ends_moved;
+    // The same at the head of a loop.
+    fn narrow_loop(&mut self, number: usize) -> bool {
+        match (self.loops.get_mut(number), self.heads.get_mut(number)) {
+            (Some(table), Some(facts)) => table.narrow(facts),
+            _ => false,
         }
-        has_moved
+    }
+}
+
+// Meets the ranges of facts of a block with what came there. Whether any moved.
+fn narrow_facts(table: &mut Table, facts: &mut Facts) -> bool {
+    match facts {
+        Facts::Kept(facts) => table.narrow(facts),
+        Facts::Listed(_) => false,
     }
 }

@@ -12,7 +12,7 @@ impl<'a> Analysis<'a> {
     #[cycle(statement)]
     pub(crate) fn statement(&mut self, statement: &Stmt, left: u32, visits: &mut Visits) {
         let Some(left) = left.checked_sub(1) else {
-            return self.walk.flow.state.die();
+            return self.die();
         };
         match statement {
             Stmt::Empty { number } => visits.tick(*number),
@@ -28,15 +28,15 @@ impl<'a> Analysis<'a> {
             } => {
                 visits.tick(*number);
                 let known = self.value(condition, left, visits);
-                let mark = self.walk.flow.state.mark();
-                self.walk.go_where(condition, &known, true);
+                let mark = self.mark();
+                self.go_where(condition, &known, true);
                 self.statement(consequence, left, visits);
-                let first = self.walk.flow.state.leave(mark);
-                self.walk.go_where(condition, &known, false);
+                let first = self.leave(mark);
+                self.go_where(condition, &known, false);
                 if let Some(other) = alternative {
                     self.statement(other, left, visits);
                 }
-                self.walk.flow.state.join_behind(mark, &first);
+                self.join_behind(mark, &first);
             }
             Stmt::While { head, body } => self.while_loop(head, body, left, visits),
             Stmt::Repeat { head, statements } => self.repeat_loop(head, statements, left, visits),
@@ -65,18 +65,28 @@ impl<'a> Analysis<'a> {
     fn case(&mut self, head: &CaseHead, arms: &[Stmt], left: u32, visits: &mut Visits) {
         visits.tick(head.number);
         let known = self.value(&head.index, left, visits);
-        self.walk.test_index(head, arms.len(), known.range());
-        let index = entire(self.walk.flow.state.table(), &head.index);
-        let mark = self.walk.flow.state.mark();
-        self.walk.flow.state.die();
-        let mut behind = self.walk.flow.state.leave(mark);
+        let index = self.index_of(head, arms.len(), &known);
+        let mark = self.mark();
+        self.die();
+        let mut behind = self.leave(mark);
         for number in 0..arms.len() {
-            begin_arm(&mut self.walk.flow.state, index, &head.constants, number);
+            self.begin_arm(head, index, number);
             self.statement(&arms[number], left, visits);
-            self.walk.flow.state.join_behind(mark, &behind);
-            behind = self.walk.flow.state.leave(mark);
+            self.join_behind(mark, &behind);
+            behind = self.leave(mark);
         }
-        self.walk.flow.state.go(&behind);
+        self.go(&behind);
+    }
+
+    // Tests the index of a case with so many arms. The variable that it is, if it is one.
+    fn index_of(&mut self, head: &CaseHead, arms: usize, known: &Known) -> Option<u32> {
+        self.walk.test_index(head, arms, known.range());
+        entire(self.state().table(), &head.index)
+    }
+
+    // Goes on in an arm.
+    fn begin_arm(&mut self, head: &CaseHead, index: Option<u32>, number: usize) {
+        begin_arm(&mut self.walk.flow.state, index, &head.constants, number);
     }
 
     // The records of a with.
@@ -96,33 +106,21 @@ impl<'a> Analysis<'a> {
     // A statement that holds no others.
     #[cycle(statement)]
     fn simple(&mut self, statement: &Stmt, left: u32, visits: &mut Visits) {
-        let mut comes_back = true;
-        if statement_holds_call(statement) {
-            match events_of(self.walk.flow.state.alloc(), statement) {
-                Ok(events) => comes_back = self.calls(&events, left, visits),
-                Err(_) => self.walk.flow.state.run_short(),
-            }
-        }
+        let alloc = self.alloc();
+        let comes_back = !statement_holds_call(statement)
+            || self.calls_among(events_of(alloc, statement), left, visits);
         self.walk.statement(statement, visits);
-        if !comes_back {
-            self.walk.flow.state.die();
-        }
+        self.die_unless(comes_back);
     }
 
     /// What is known of the value of an expression.
     #[cycle(statement)]
     pub(crate) fn value(&mut self, expression: &Expr, left: u32, visits: &mut Visits) -> Known {
-        let mut comes_back = true;
-        if holds_call(expression) {
-            match expression_events(self.walk.flow.state.alloc(), expression) {
-                Ok(events) => comes_back = self.calls(&events, left, visits),
-                Err(_) => self.walk.flow.state.run_short(),
-            }
-        }
+        let alloc = self.alloc();
+        let comes_back = !holds_call(expression)
+            || self.calls_among(expression_events(alloc, expression), left, visits);
         let known = self.walk.expression(expression, visits);
-        if !comes_back {
-            self.walk.flow.state.die();
-        }
+        self.die_unless(comes_back);
         known
     }
 }

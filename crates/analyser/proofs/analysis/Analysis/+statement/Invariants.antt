@@ -14,41 +14,44 @@ decreases-enter l = 16 * l.left + 2
 abbrev pub decreases-calls : goal.decreases-calls
 decreases-calls l = 16 * l.left + 3
 
+abbrev pub decreases-calls_among : goal.decreases-calls_among
+decreases-calls_among l = 16 * l.left + 4
+
 abbrev pub decreases-simple : goal.decreases-simple
-decreases-simple l = 16 * l.left + 4
+decreases-simple l = 16 * l.left + 5
 
 abbrev pub decreases-value : goal.decreases-value
-decreases-value l = 16 * l.left + 4
+decreases-value l = 16 * l.left + 5
 
 abbrev pub decreases-records : goal.decreases-records
-decreases-records l = 16 * l.left + 5
+decreases-records l = 16 * l.left + 6
 
 abbrev pub decreases-statements : goal.decreases-statements
-decreases-statements l = 16 * l.left + 5
+decreases-statements l = 16 * l.left + 6
 
 abbrev pub decreases-while_turn : goal.decreases-while_turn
-decreases-while_turn l = 16 * l.left + 6
+decreases-while_turn l = 16 * l.left + 7
 
 abbrev pub decreases-repeat_turn : goal.decreases-repeat_turn
-decreases-repeat_turn l = 16 * l.left + 6
+decreases-repeat_turn l = 16 * l.left + 7
 
 abbrev pub decreases-for_turn : goal.decreases-for_turn
-decreases-for_turn l = 16 * l.left + 6
+decreases-for_turn l = 16 * l.left + 7
 
 abbrev pub decreases-for_turns : goal.decreases-for_turns
-decreases-for_turns l = 16 * l.left + 7
+decreases-for_turns l = 16 * l.left + 8
 
 abbrev pub decreases-while_loop : goal.decreases-while_loop
-decreases-while_loop l = 16 * l.left + 8
+decreases-while_loop l = 16 * l.left + 9
 
 abbrev pub decreases-repeat_loop : goal.decreases-repeat_loop
-decreases-repeat_loop l = 16 * l.left + 8
+decreases-repeat_loop l = 16 * l.left + 9
 
 abbrev pub decreases-for_loop : goal.decreases-for_loop
-decreases-for_loop l = 16 * l.left + 8
+decreases-for_loop l = 16 * l.left + 9
 
 abbrev pub decreases-case : goal.decreases-case
-decreases-case l = 16 * l.left + 8
+decreases-case l = 16 * l.left + 9
 
 abbrev pub invariant-while_loop-loop : goal.invariant-while_loop-loop
 invariant-while_loop-loop l = l.left ≡ l.fn.left
