@@ -66,12 +66,12 @@ fn settled(
     let text = write(alloc, certificate)?;
     let certificate = match read(alloc, &text) {
         Ok(certificate) => certificate,
-        Err(ReadFault::Memory) => return Err(AllocError),
+        Err(ReadFault::Memory(refused)) => return Err(refused.into()),
         Err(_) => return Ok(None),
     };
     match check(alloc, tree, &certificate) {
         Ok(_) => Ok(Some(certificate)),
-        Err(CheckFault::Memory) => Err(AllocError),
+        Err(CheckFault::Memory(refused)) => Err(refused.into()),
         Err(_) => Ok(None),
     }
 }

@@ -5,6 +5,7 @@ use checker_calls::actuals::Bindings;
 use checker_loops::sections::Facts;
 use checker_rows::Rows;
 use checker_trail::State;
+use memory::Refused;
 use std::alloc::{AllocError, Global};
 use std::mem;
 
@@ -116,9 +117,9 @@ impl<'a> Analysis<'a> {
         Ok(facts)
     }
 
-    /// Whether memory ran out.
-    pub(crate) fn is_short(&self) -> bool {
-        self.walk.flow.state.is_short()
+    /// That memory ran out, where it did.
+    pub(crate) fn refusal(&self) -> Option<Refused> {
+        self.walk.flow.state.refusal()
     }
 
     /// A block has to be walked.

@@ -38,8 +38,8 @@ impl<'a> Analysis<'a> {
     ) -> bool {
         match events {
             Ok(events) => self.calls(&events, left, visits),
-            Err(_) => {
-                self.run_short();
+            Err(error) => {
+                self.run_short(error.into());
                 true
             }
         }
@@ -159,8 +159,11 @@ impl<'a> Analysis<'a> {
     // A state that was walked in. What it lacks of memory, all lack.
     fn give_back(&mut self, state: State<'a>) {
         self.walk.flow.open_ids.clear();
-        if state.is_short() || self.spare.push(state).is_err() {
-            self.run_short();
+        if let Some(refused) = state.refusal() {
+            return self.run_short(refused);
+        }
+        if let Err(error) = self.spare.push(state) {
+            self.run_short(error.into());
         }
     }
 }

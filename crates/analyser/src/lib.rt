@@ -113,8 +113,8 @@ fn given_facts(
     analysis.make_room(alloc, &proposed)?;
     analysis.keep(proposed);
     analysis.run(visits);
-    if analysis.is_short() {
-        return Err(AllocError);
+    match analysis.refusal() {
+        Some(refused) => Err(refused.into()),
+        None => analysis.take(alloc),
     }
-    analysis.take(alloc)
 }

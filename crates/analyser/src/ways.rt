@@ -4,6 +4,7 @@ use crate::analysis::Analysis;
 use checker_known::Branch;
 use checker_state::Known;
 use checker_trail::{Mark, State};
+use memory::Refused;
 use std::alloc::Global;
 use typed_tree::tree::{Block, Expr};
 
@@ -67,7 +68,7 @@ impl<'a> Analysis<'a> {
     }
 
     /// Memory ran out.
-    pub(crate) fn run_short(&mut self) {
-        self.walk.flow.state.run_short();
+    pub(crate) fn run_short(&mut self, refused: Refused) {
+        self.walk.flow.state.run_short(refused);
     }
 }

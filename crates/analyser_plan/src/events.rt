@@ -41,7 +41,7 @@ pub enum Event<'t> {
 #[derive(Drop)]
 pub struct Events<'t> {
     list: Vec<Event<'t>>,
-    is_short: bool,
+    refused: Option<AllocError>,
 }
 
 /// What happens in a statement.
@@ -71,20 +71,20 @@ impl<'t> Events<'t> {
     fn none(alloc: Global) -> Events<'t> {
         Events {
             list: Vec::new(alloc),
-            is_short: false,
+            refused: None,
         }
     }
 
     fn finish(self) -> Result<Vec<Event<'t>>, AllocError> {
-        if self.is_short {
-            return Err(AllocError);
+        match self.refused {
+            Some(error) => Err(error),
+            None => Ok(self.list),
         }
-        Ok(self.list)
     }
 
     fn push(&mut self, event: Event<'t>) {
-        if self.list.push(event).is_err() {
-            self.is_short = true;
+        if let Err(error) = self.list.push(event) {
+            self.refused = Some(error.into());
         }
     }
 }

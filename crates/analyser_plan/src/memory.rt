@@ -5,14 +5,14 @@ use std::cell::Cell;
 #[derive(Drop)]
 pub(crate) struct Memory {
     pub(crate) alloc: Global,
-    is_short: Cell<bool>,
+    refused: Cell<Option<AllocError>>,
 }
 
 impl Memory {
     pub(crate) fn of(alloc: Global) -> Memory {
         Memory {
             alloc,
-            is_short: Cell::new(false),
+            refused: Cell::new(None),
         }
     }
 
@@ -32,15 +32,18 @@ impl Memory {
 
     /// Puts an item behind a list.
     pub(crate) fn push<T: Drop>(&self, list: &mut Vec<T>, item: T) {
-        if list.push(item).is_err() {
-            self.is_short.set(true);
+        if let Err(error) = list.push(item) {
+            self.refused.set(Some(error.into()));
         }
     }
 
     /// Puts an item into a list, at a place that is there.
     pub(crate) fn insert<T: Drop>(&self, list: &mut Vec<T>, place: usize, item: T) {
-        if place <= list.len() && list.insert(place, item).is_err() {
-            self.is_short.set(true);
+        if place > list.len() {
+            return;
+        }
+        if let Err(error) = list.insert(place, item) {
+            self.refused.set(Some(error.into()));
         }
     }
 
@@ -48,8 +51,8 @@ impl Memory {
     pub(crate) fn list<T: Drop>(&self, made: Result<Vec<T>, AllocError>) -> Vec<T> {
         match made {
             Ok(list) => list,
-            Err(_) => {
-                self.is_short.set(true);
+            Err(error) => {
+                self.refused.set(Some(error));
                 self.none()
             }
         }
@@ -57,10 +60,10 @@ impl Memory {
 
     /// Whether there was memory for all.
     pub(crate) fn finish(&self) -> Result<(), AllocError> {
-        if self.is_short.get() {
-            return Err(AllocError);
+        match self.refused.get() {
+            Some(error) => Err(error),
+            None => Ok(()),
         }
-        Ok(())
     }
 }
 

@@ -8,7 +8,7 @@ pub struct Ladders {
     links: Vec<usize>,
     // Each with the row that it was added to, and from `finish` on with the first of those that share it, ascending.
     steps: Vec<(usize, i64)>,
-    is_short: bool,
+    refused: Option<AllocError>,
 }
 
 impl Ladders {
@@ -20,7 +20,7 @@ impl Ladders {
         Ok(Ladders {
             links: (0..rows).collect(alloc)?,
             steps: Vec::new(alloc),
-            is_short: false,
+            refused: None,
         })
     }
 
@@ -35,8 +35,11 @@ impl Ladders {
 
     /// A step of a row, if it is a number that facts have. Where memory runs out, `finish` tells it.
     pub fn add(&mut self, row: usize, step: i64) {
-        if Interval::INTEGER.has(step) {
-            self.is_short = self.is_short || self.steps.push((row, step)).is_err();
+        if !Interval::INTEGER.has(step) || self.refused.is_some() {
+            return;
+        }
+        if let Err(error) = self.steps.push((row, step)) {
+            self.refused = Some(error.into());
         }
     }
 
@@ -46,8 +49,8 @@ impl Ladders {
     /// # Errors
     /// There was no memory for a step.
     pub fn finish(&mut self) -> Result<(), AllocError> {
-        if self.is_short {
-            return Err(AllocError);
+        if let Some(error) = self.refused {
+            return Err(error);
         }
         for row in 0..self.links.len() {
             self.shorten(row);

@@ -62,10 +62,10 @@ module _ (tree : Tree) (certificate : Certificate) {state : Kept} {grounds : Gro
       → map (λ row. row.items) aliases
       ≡ all_loop_aliases tree (record { tree = tree; pairs = all_pairs certificate }) (all_claims tree certificate)
       → map (λ row. row.items) declared ≡ all_declared tree → Passes (blocks_walk 0 tree.blocks.items) declared begun new
-      → new.flow.state.is_short ≡ false → Noted (program_walk tree certificate) begun new
+      → new.flow.state.refused ≡ None → Noted (program_walk tree certificate) begun new
   program-noted declared {new = new} starts are claims_are aliases_are declared_are passes long =
       let passed = passes.unless_short long in
-      let started = starts.unless_short (ap (λ (s : Kept). s.is_short) (sym begins.state_is) ∙ passed.was_long) in
+      let started = starts.unless_short (ap (λ (s : Kept). s.refused) (sym begins.state_is) ∙ passed.was_long) in
       let context : context_of begun ≡ first_context tree certificate = begun-context are started.table_is claims_are in
       let blocks = tree.blocks.items in
       let known = state_of begun.flow in
@@ -80,8 +80,8 @@ module _ (tree : Tree) (certificate : Certificate) {state : Kept} {grounds : Gro
       (ap (λ (c : Context). (blocks_walk 0 blocks c known).broken) context ∙ broken-alike 0 blocks (first_context tree certificate) known Dead)
       (passed.has_done loops declares types).noted
 
-  module _ {new : Walk} (noted : new.flow.state.is_short ≡ false → Noted (program_walk tree certificate) begun new) where
-    broken-first : new.flow.state.is_short ≡ false → new.flow.broken ≡ first_breach (program_walk tree certificate).broken
+  module _ {new : Walk} (noted : new.flow.state.refused ≡ None → Noted (program_walk tree certificate) begun new) where
+    broken-first : new.flow.state.refused ≡ None → new.flow.broken ≡ first_breach (program_walk tree certificate).broken
     broken-first long =
         (noted long).broken_is
         ∙ ap (λ (b : Option Breach). first_of b (first_breach (program_walk tree certificate).broken)) begins.broken_is
@@ -97,7 +97,7 @@ module _ (tree : Tree) (certificate : Certificate) {state : Kept} {grounds : Gro
 
     -- why there is no verdict
     program-fault : (fault : CheckFault) → IsFaultOf new fault → IsBreachOf (program_walk tree certificate) fault
-    program-fault Memory is = tt
+    program-fault (Memory _) is = tt
     program-fault Foreign is = is
     program-fault (Broken rule place) is = sym (broken-first is.0) ∙ is.1
 

@@ -1,5 +1,5 @@
 -- What the checker did over two ways from a point, and over a loop.
-use Rattle.std.proofs.Common.{◌≡◌, ◌∙◌, refl, sym, ap, ap₂, subst, false, Option, Some, ℕ, List, [], ◌∷◌, ◌++◌, length}
+use Rattle.std.proofs.Common.{None, ◌≡◌, ◌∙◌, refl, sym, ap, ap₂, subst, false, Option, Some, ℕ, List, [], ◌∷◌, ◌++◌, length}
 use Rattle.std.proofs.Common.{append_assoc, append-nil}
 use Rattle.place.specs.declared.Place.{Place}
 use Rattle.typed_tree.specs.declared.tree.Tree.{Tree}
@@ -31,7 +31,7 @@ use Rattle.cert_checker.proofs.Steps.{noted-then}
 
 -- what a state that is short had to be before
 abbrev pub StaysLong : (old new : Kept) → Type 0
-StaysLong old new = new.is_short ≡ false → old.is_short ≡ false
+StaysLong old new = new.refused ≡ None → old.refused ≡ None
 
 -- a state was taken back to a mark
 abbrev pub IsBack : ℕ → (old new : Kept) → Branch → Type 0
@@ -182,7 +182,7 @@ module _ {X : Type 0} (number : ℕ) (place : Place) (control : Option ℕ) (fir
             }
 
         -- from where the facts are given, once a turn ended, the state goes back to where it was told whether another follows
-        module _ (mark : ℕ) (back : Kept) (branch : Branch) (is : mark ≡ length tested.flow.state.trail.items) (long : back.is_short ≡ false)
+        module _ (mark : ℕ) (back : Kept) (branch : Branch) (is : mark ≡ length tested.flow.state.trail.items) (long : back.refused ≡ None)
             (is_back : IsBack mark outside.flow.state back branch) where
           returned : Left tested.flow.state outside.flow.state back branch
           returned =

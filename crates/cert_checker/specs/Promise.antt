@@ -46,7 +46,7 @@ pub record Valid (tree : Tree) (certificate : Certificate) (open_sites : List Si
 -- why a certificate is refused: it names what the program doesn't have, or what may not be named; or the
 -- walk by it breaks a rule; or for want of memory
 abbrev pub IsRefusedFor : Tree → Certificate → CheckFault → Type 0
-IsRefusedFor tree certificate Memory = Unit {0}
+IsRefusedFor tree certificate (Memory _) = Unit {0}
 IsRefusedFor tree certificate Foreign = is_known tree certificate ≡ false
 IsRefusedFor tree certificate (Broken rule place) =
     (is_known tree certificate ≡ true) × IsBreachOf (program_walk tree certificate) (Broken rule place)

@@ -55,12 +55,12 @@ AreLoops context aliases =
 
 -- memory hadn't run out before, and this was done, if the checker has the aliases of the loops
 pub record Did (old : Walk) (done : Type 0) : Type 0 where
-  pub was_long : old.flow.state.is_short ≡ false
+  pub was_long : old.flow.state.refused ≡ None
   pub has_done : AreLoops (context_of old) old.aliases.now → done
 
 -- the same unless memory ran out
 pub record Does (old new : Walk) (done : Type 0) : Type 0 where
-  pub unless_short : new.flow.state.is_short ≡ false → Did old done
+  pub unless_short : new.flow.state.refused ≡ None → Did old done
 
 -- what the checker noted from an old to a new point is what was walked: the sites that are left open, and the first
 -- rule that is broken; it goes by what it went by before
@@ -224,13 +224,13 @@ pub record IsBegun (state : Kept) (grounds : Grounds) (claims : List KeptClaims)
 
 -- memory didn't run out, no rule is broken, and these are the ids of the sites that are left open
 pub record IsUnbroken (walk : Walk) (ids : List ℕ) : Type 0 where
-  pub is_long : walk.flow.state.is_short ≡ false
+  pub is_long : walk.flow.state.refused ≡ None
   pub unbroken : walk.flow.broken ≡ None
   pub ids_are : ids ≡ walk.flow.open_ids.items
 
 -- why the checker gives no verdict
 abbrev pub IsFaultOf : Walk → CheckFault → Type 0
-IsFaultOf walk Memory = Unit {0}
+IsFaultOf walk (Memory _) = Unit {0}
 IsFaultOf walk Foreign = ⊥
 IsFaultOf walk (Broken rule place) =
-    (walk.flow.state.is_short ≡ false) × (walk.flow.broken ≡ Some (record { rule = rule; place = place }))
+    (walk.flow.state.refused ≡ None) × (walk.flow.broken ≡ Some (record { rule = rule; place = place }))

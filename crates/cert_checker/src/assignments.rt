@@ -133,7 +133,7 @@ impl<'a> Walk<'a> {
     {
         match self.aliases(root) {
             Ok(aliases) => stores.make(&mut self.flow.state, &aliases, reach),
-            Err(_) => self.flow.state.run_short(),
+            Err(error) => self.flow.state.run_short(error.into()),
         }
     }
 
@@ -143,7 +143,7 @@ impl<'a> Walk<'a> {
     {
         match self.aliases(root) {
             Ok(aliases) => assign(&mut self.flow.state, &aliases, root, range, form),
-            Err(_) => self.flow.state.run_short(),
+            Err(error) => self.flow.state.run_short(error.into()),
         }
     }
 

@@ -88,7 +88,7 @@ impl<'a> Walk<'a> {
 /// Goes on where a block of a number begins, by what is claimed of it.
 pub fn begin(flow: &mut Flow, number: u32, declared: &[Vec<u32>])
     ensures only { flow.new ≡ record (flow.old) { state = flow.new.state } }
-    ensures long { flow.new.state.is_short ≡ false → flow.old.state.is_short ≡ false }
+    ensures long { flow.new.state.refused ≡ None → flow.old.state.refused ≡ None }
     ensures begins { map (λ row. row.items) declared.now ≡ all_declared flow.old.state.table.now
         → state_of flow.old ≡ of_types (type_rows flow.old.state.table.now)
         → Moves (λ _. start_of number flow.old) flow.old.state flow.new.state }

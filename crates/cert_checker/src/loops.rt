@@ -27,7 +27,7 @@ impl<'a> Walk<'a> {
         round.head(&mut self.flow.state);
         match self.flow.grounds.rounds.push(round) {
             Ok(()) => {}
-            Err(_) => self.flow.state.run_short(),
+            Err(error) => self.flow.state.run_short(error.into()),
         }
     }
 

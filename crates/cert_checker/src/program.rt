@@ -98,8 +98,8 @@ impl<'a> Walk<'a> {
     fn end(self) -> Result<Vec<u32>, CheckFault>
         ensures { MatchResult result (λ ids. IsUnbroken self.entry ids.items) (IsFaultOf self.entry) }
     {
-        if self.flow.state.is_short() {
-            return Err(CheckFault::Memory);
+        if let Some(refused) = self.flow.state.refusal() {
+            return Err(CheckFault::Memory(refused));
         }
         match self.flow.broken {
             Some(Breach { rule, place }) => Err(CheckFault::Broken { rule, place }),

@@ -47,7 +47,7 @@ impl<'a> Stores<'a> {
         }
         match self.in_rows(state.alloc(), state.table()) {
             Ok(stored) => aliases::store(state, aliases, &stored),
-            Err(_) => state.run_short(),
+            Err(error) => state.run_short(error.into()),
         }
     }
 

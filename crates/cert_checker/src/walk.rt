@@ -345,7 +345,7 @@ impl<'a> Walk<'a> {
             Ok(tested) => {
                 self.flow.test(tested.is_closed, head.site, tested.passed);
             }
-            Err(_) => self.flow.state.run_short(),
+            Err(error) => self.flow.state.run_short(error.into()),
         }
     }
 }

@@ -6,6 +6,7 @@ use Rattle.std.specs.List.{flat_map, list_all}
 use Rattle.std.specs.Result.{IsErrAnd}
 use Rattle.std.specs.Str.{bytes_eq}
 use Rattle.std.proofs.lemmas.Slice.Eq.{bytes_eq-Decides}
+use Rattle.memory.specs.Refused.{the_refusal}
 use Rattle.certificate.specs.declared.Certificate.{Certificate}
 use Rattle.certificate.specs.declared.Version.{Version}
 use Rattle.certificate.specs.declared.Version.TheVariants.{One}
@@ -79,8 +80,8 @@ spelling_faultless version sections right =
 none_is : (error : ReadFault) → (let o : Option ReadFault = Some error in o ≡ None) → ⊥
 none_is error same = absurd cc
 
-only_memory : (error : ReadFault) → (error ≢ fault.Memory → Some error ≡ None) → error ≡ fault.Memory
-only_memory fault.Memory told = refl
+only_memory : (error : ReadFault) → (error ≢ fault.Memory the_refusal → Some error ≡ None) → error ≡ fault.Memory the_refusal
+only_memory (fault.Memory _) told = refl
 only_memory (fault.FirstLine line) told = absurd (none_is _ (told (λ same. absurd cc)))
 only_memory (fault.NotInGrammar line) told = absurd (none_is _ (told (λ same. absurd cc)))
 only_memory (fault.OutOfOrder line) told = absurd (none_is _ (told (λ same. absurd cc)))
@@ -89,8 +90,8 @@ only_memory (fault.Unended line) told = absurd (none_is _ (told (λ same. absurd
 
 -- a text that spells sections in order is refused for want of memory alone
 pub refused_for_memory : (error : ReadFault) (text : List ℕ) (version : Version) (sections : List Section)
-    → (error ≢ fault.Memory → Some error ≡ first_fault text) → are_in_order sections ≡ true → text ≡ spelling version sections
-    → error ≡ fault.Memory
+    → (error ≢ fault.Memory the_refusal → Some error ≡ first_fault text) → are_in_order sections ≡ true → text ≡ spelling version sections
+    → error ≡ fault.Memory the_refusal
 refused_for_memory error text version sections told right text_is =
     only_memory error (λ other. told other ∙ ap first_fault text_is ∙ spelling_faultless version sections right)
 
@@ -112,6 +113,6 @@ fault_below text first below error text_is none is =
     sym (ap fault_of_lines text_is ∙ ap (λ one. or_else one (fault_from 2 nothing below)) none ∙ is)
 
 pub error_only : (sections : List Section) (answer : Result Certificate ReadFault) (error : ReadFault) → IsErrAnd answer (λ given. given ≡ error)
-    → error ≡ fault.Memory → IsReadAs sections answer
+    → error ≡ fault.Memory the_refusal → IsReadAs sections answer
 error_only sections (Ok certificate) error is only = absurd is
 error_only sections (Err given) error is only = is ∙ only

@@ -4,6 +4,7 @@ use Rattle.std.specs.Prelude.{◌≡◌, ◌≢◌, ℕ, Bool, true, List, [], �
 use Rattle.std.specs.Prelude.{if◌then◌else◌}
 use Rattle.std.specs.Global.{Vec}
 use Rattle.std.specs.List.{list_all}
+use Rattle.memory.specs.Refused.{the_refusal}
 use Rattle.domain.specs.Interval.{between}
 use Rattle.domain.specs.Facts.{Step, Path, Range, Defined, Stretch, Order, said_bound}
 use Rattle.domain.specs.Facts.{Fact as VariableFact}
@@ -135,4 +136,4 @@ AreRead (Ok sections) below =
     (fault_from 2 nothing below ≡ None)
     × (said : List Content) × (list_all is_content said ≡ true) × (below ≡ map said_line said)
     × (map section_of sections.items ≡ built [] said)
-AreRead (Err fault) below = fault ≢ Memory → fault_from 2 nothing below ≡ Some fault
+AreRead (Err fault) below = fault ≢ Memory the_refusal → fault_from 2 nothing below ≡ Some fault

@@ -7,6 +7,7 @@ use Rattle.std.specs.List.{flat_map, list_all}
 use Rattle.std.specs.declared.cmp.Ordering.{Ordering}
 use Rattle.std.specs.Ordering.{is_lt, int_eq, nat_cmp, ordering_then}
 use Rattle.std.specs.declared.cmp.Ordering.TheVariants.{Equal}
+use Rattle.memory.specs.Refused.{the_refusal}
 use Rattle.domain.specs.Facts.{Step, Path, Bound, Elements, Field, Number, Plus, Range, Defined, Stretch, Order}
 use Rattle.domain.specs.Facts.{Fact as VariableFact, said_bound, said_path, subject_order}
 use Rattle.domain.specs.Interval.{Interval}
@@ -222,4 +223,4 @@ pub record Spells (text : List ℕ) (certificate : Certificate) : Type 0 where
 -- sections are answered, or memory ran out
 abbrev pub IsReadAs : List Section → Result Certificate ReadFault → Type 0
 IsReadAs sections (Ok certificate) = contents certificate ≡ sections
-IsReadAs sections (Err fault) = fault ≡ Memory
+IsReadAs sections (Err fault) = fault ≡ Memory the_refusal

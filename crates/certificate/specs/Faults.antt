@@ -6,7 +6,7 @@ use Rattle.certificate.specs.declared.fault.ReadFault.TheVariants.{OutOfRange, U
 
 -- the number of a fault behind the letter F, and 0 for want of memory
 abbrev pub number_of : ReadFault → ℕ
-number_of Memory = 0
+number_of (Memory _) = 0
 number_of (FirstLine line) = 1
 number_of (NotInGrammar line) = 2
 number_of (OutOfOrder line) = 3
@@ -15,7 +15,7 @@ number_of (Unended line) = 5
 
 -- the line of a fault
 abbrev pub line_of : ReadFault → Option ℕ
-line_of Memory = None
+line_of (Memory _) = None
 line_of (FirstLine line) = Some line
 line_of (NotInGrammar line) = Some line
 line_of (OutOfOrder line) = Some line

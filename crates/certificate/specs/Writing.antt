@@ -1,6 +1,6 @@
 -- How a writer of certificates comes from line to line: words of private functions alone. It does not say how a
 -- certificate is spelled.
-use Rattle.std.specs.Prelude.{◌≡◌, ℕ, false, List, ◌++◌, codes}
+use Rattle.std.specs.Prelude.{◌≡◌, ℕ, None, List, ◌++◌, codes}
 use Rattle.std.specs.List.{flat_map}
 use Rattle.domain.specs.Facts.{Fact as VariableFact}
 use Rattle.certificate.specs.declared.AliasPair.{AliasPair}
@@ -11,7 +11,7 @@ use Rattle.certificate.specs.Contents.{LoopClaims, Section, ended}
 -- bytes are appended to a text, unless memory ran out
 abbrev pub Appends : List ℕ → (old new : Writer) → Type 0
 Appends bytes old new =
-    new.is_short ≡ false → (old.is_short ≡ false) × (new.text.items ≡ old.text.items ++ bytes)
+    new.refused ≡ None → (old.refused ≡ None) × (new.text.items ≡ old.text.items ++ bytes)
 
 -- the lines of claims
 abbrev pub alias_line : AliasPair → List ℕ

@@ -1,6 +1,8 @@
 ghost use Rattle.std.specs.Prelude.{◌≡◌};
+ghost use Rattle.memory.specs.Refused.{the_refusal};
 ghost use Rattle.certificate.specs.declared.fault.ReadFault.TheVariants.{Memory};
 
+use memory::Refused;
 use std::alloc::{AllocError, AllocFailed};
 use thiserror::Error;
 
@@ -9,7 +11,7 @@ use thiserror::Error;
 #[derive(Clone, Copy, Debug, Error)]
 pub enum ReadFault {
     #[error("no memory")]
-    Memory,
+    Memory(Refused),
     /// F1, a first line that names no version; at line 1 of a text without lines.
     #[error("{line}: no certificate")]
     FirstLine { line: u64 },
@@ -35,7 +37,7 @@ impl ReadFault {
         ensures { result ≡ number_of self.now }
     {
         match self {
-            ReadFault::Memory => 0,
+            ReadFault::Memory(_) => 0,
             ReadFault::FirstLine { .. } => 1,
             ReadFault::NotInGrammar { .. } => 2,
             ReadFault::OutOfOrder { .. } => 3,
@@ -49,7 +51,7 @@ impl ReadFault {
         ensures { result ≡ line_of self.now }
     {
         match self {
-            ReadFault::Memory => None,
+            ReadFault::Memory(_) => None,
             ReadFault::FirstLine { line }
             | ReadFault::NotInGrammar { line }
             | ReadFault::OutOfOrder { line }
@@ -60,17 +62,17 @@ impl ReadFault {
 }
 
 impl From<AllocError> for ReadFault {
-    ghost from_gives = { λ _ e. e ≡ Memory };
+    ghost from_gives = { λ _ e. e ≡ Memory the_refusal };
 
-    fn from(_error: AllocError) -> ReadFault {
-        ReadFault::Memory
+    fn from(error: AllocError) -> ReadFault {
+        ReadFault::Memory(error.into())
     }
 }
 
 impl<T: Drop> From<AllocFailed<T>> for ReadFault {
-    ghost from_gives = { λ _ e. e ≡ Memory };
+    ghost from_gives = { λ _ e. e ≡ Memory the_refusal };
 
-    fn from(_error: AllocFailed<T>) -> ReadFault {
-        ReadFault::Memory
+    fn from(error: AllocFailed<T>) -> ReadFault {
+        ReadFault::Memory(error.into())
     }
 }

@@ -4,6 +4,7 @@ ghost use Rattle.certificate.specs.Building.{AreRead, IsContentAt, said_above, s
 ghost use Rattle.certificate.specs.Contents.{IsReadAs, Section as Said, Spells, are_in_order, spelling};
 ghost use Rattle.certificate.specs.Text.{Line as TextLine, first_fault, has_below, heading_fault, is_heading, lines};
 ghost use Rattle.certificate.specs.declared.Version.{Version as TextVersion};
+ghost use Rattle.memory.specs.Refused.{the_refusal};
 ghost use Rattle.certificate.specs.declared.fault.ReadFault.TheVariants.{Memory};
 
 use crate::building::add;
@@ -35,7 +36,7 @@ pub fn read(alloc: Global, text: &[u8]) -> Result<Certificate, ReadFault>
     // A text that spells sections in order is read, unless memory runs out, and no other sections are answered.
     ensures only { (version : TextVersion) (sections : List Said) → IsTrue (are_in_order sections)
         → text.now ≡ spelling version sections → IsReadAs sections result }
-    ensures fault { result_err result ≢ Some Memory → result_err result ≡ first_fault text.now }
+    ensures fault { result_err result ≢ Some (Memory the_refusal) → result_err result ≡ first_fault text.now }
 {
     let Some((first, below)) = next_line(text) else {
         return Err(ReadFault::FirstLine { line: 1 });

@@ -32,16 +32,16 @@ pub fn write(alloc: Global, certificate: &Certificate) -> Result<Vec<u8>, AllocE
 {
     let mut writer = Writer {
         text: Vec::new(alloc),
-        is_short: false,
+        refused: None,
     };
     match certificate.version {
         Version::One => writer.append(b"pcert 1\n"),
     }
     writer.sections(&certificate.sections);
-    if writer.is_short {
-        return Err(AllocError);
+    match writer.refused {
+        Some(error) => Err(error),
+        None => Ok(writer.text),
     }
-    Ok(writer.text)
 }
 
 /// Reads again what is written of a certificate.
@@ -59,15 +59,15 @@ pub fn read_again(alloc: Global, certificate: &Certificate) -> Result<Certificat
 #[derive(Drop)]
 struct Writer {
     text: Vec<u8>,
-    is_short: bool,
+    refused: Option<AllocError>,
 }
 
 impl Writer {
     fn append(&mut self, bytes: &[u8])
         ensures { Appends bytes.now self.old self.new }
     {
-        if self.text.extend_from_slice(bytes).is_err() {
-            self.is_short = true;
+        if let Err(error) = self.text.extend_from_slice(bytes) {
+            self.refused = Some(error);
         }
     }
 

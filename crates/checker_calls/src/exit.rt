@@ -56,7 +56,7 @@ pub fn call(
         claims.end,
     ) {
         Ok(touches) => go_behind(state, rows, block, bindings, &touches, claims.end),
-        Err(_) => state.run_short(),
+        Err(error) => state.run_short(error.into()),
     }
 }
 
@@ -135,7 +135,7 @@ fn forget(state: &mut State, touches: &Touches)
 {
     match kept(state.alloc(), state.held(), touches) {
         Ok(kept) => state.retain(&kept),
-        Err(_) => state.run_short(),
+        Err(error) => state.run_short(error.into()),
     }
 }
 

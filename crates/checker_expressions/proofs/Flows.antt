@@ -1,6 +1,6 @@
 -- What the checker did over a piece of a program, from what it did over the parts of it.
 use Rattle.std.proofs.Common.{◌≡◌, ◌∙◌, sym, ap, ap₂, refl, Bool, true, ◌||◌, ℕ, List, [], ◌∷◌, ◌++◌, Option, Some, None, map, append_assoc, append-nil}
-use Rattle.std.proofs.lemmas.Bool.{true≢false}
+use Rattle.memory.specs.declared.Refused.{Refused}
 use Rattle.typed_tree.specs.declared.tree.Tree.{Tree}
 use Rattle.checker_state.specs.State.{State, is_dead}
 use Rattle.checker_trail.specs.declared.state.State.{State as Kept}
@@ -161,8 +161,11 @@ goes-moved step old moves =
     (sym (append-nil old.open_ids.items)) (sym (first-none old.broken))
 
 -- memory ran out
-pub goes-short : {A : Type 0} (walking : Walking A) (old new : Flow) (a : A) → new.state.is_short ≡ true → Goes walking old new a
-goes-short walking old new a short = record { unless_short = λ long. absurd (true≢false (sym short ∙ long)) }
+pub goes-short : {A : Type 0} {refused : Refused} (walking : Walking A) (old new : Flow) (a : A) → new.state.refused ≡ Some refused
+    → Goes walking old new a
+goes-short {refused = refused} walking old new a short = record {
+  unless_short = λ long. absurd (let never : Some refused ≡ None = sym short ∙ long in cc);
+}
 
 -- ---- values
 

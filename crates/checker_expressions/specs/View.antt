@@ -75,12 +75,12 @@ pub record Flowed {A : Type 0} (context : Context) (walking : Walking A) (old ne
 
 -- the same by its grounds, whatever is claimed of loops; it was not short of memory
 pub record Flows {A : Type 0} (walking : Walking A) (old new : Flow) (value : A) : Type 0 where
-  pub was_long : old.state.is_short ≡ false
+  pub was_long : old.state.refused ≡ None
   pub flowed : (claims : List Claims) → Flowed (context_of old claims) walking old new value
 
 -- the same unless memory ran out
 pub record Goes {A : Type 0} (walking : Walking A) (old new : Flow) (value : A) : Type 0 where
-  pub unless_short : new.state.is_short ≡ false → Flows walking old new value
+  pub unless_short : new.state.refused ≡ None → Flows walking old new value
 
 -- a range of the program is that of some results; where it is tested whether these are integers, its ends may be held
 abbrev pub IsRangeOf : Option ℕ → (kept range : Interval) → Type 0

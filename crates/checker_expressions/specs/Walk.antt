@@ -172,7 +172,7 @@ first_breach (breach ∷ breaches) = Some breach
 
 -- why a walk by a certificate is given up: for the first rule that it breaks, or for want of memory
 abbrev pub IsBreachOf : {A : Type 0} → Walked A → CheckFault → Type 0
-IsBreachOf walked Memory = Unit {0}
+IsBreachOf walked (Memory _) = Unit {0}
 IsBreachOf walked Foreign = ⊥
 IsBreachOf walked (Broken rule place) = first_breach walked.broken ≡ Some (record { rule = rule; place = place })
 

@@ -69,7 +69,7 @@ impl<'a> Flow<'a> {
             bindings,
         ) {
             Ok(separate) => self.ask(separate, Rule::Aliases, call.name),
-            Err(_) => self.state.run_short(),
+            Err(error) => self.state.run_short(error.into()),
         }
     }
 

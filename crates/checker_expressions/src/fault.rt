@@ -1,6 +1,8 @@
 ghost use Rattle.std.specs.Prelude.{◌≡◌};
+ghost use Rattle.memory.specs.Refused.{the_refusal};
 ghost use Rattle.checker_expressions.specs.declared.fault.CheckFault.TheVariants.{Memory};
 
+use memory::Refused;
 use place::Place;
 use std::alloc::{AllocError, AllocFailed};
 use thiserror::Error;
@@ -51,7 +53,7 @@ pub struct Breach {
 #[derive(Clone, Copy, Debug, Error)]
 pub enum CheckFault {
     #[error("no memory")]
-    Memory,
+    Memory(Refused),
     /// C1: the certificate names what the program doesn't have.
     #[error("the certificate names what the program does not have")]
     Foreign,
@@ -61,17 +63,17 @@ pub enum CheckFault {
 }
 
 impl From<AllocError> for CheckFault {
-    ghost from_gives = { λ _ e. e ≡ Memory };
+    ghost from_gives = { λ _ e. e ≡ Memory the_refusal };
 
-    fn from(_error: AllocError) -> CheckFault {
-        CheckFault::Memory
+    fn from(error: AllocError) -> CheckFault {
+        CheckFault::Memory(error.into())
     }
 }
 
 impl<T: Drop> From<AllocFailed<T>> for CheckFault {
-    ghost from_gives = { λ _ e. e ≡ Memory };
+    ghost from_gives = { λ _ e. e ≡ Memory the_refusal };
 
-    fn from(_error: AllocFailed<T>) -> CheckFault {
-        CheckFault::Memory
+    fn from(error: AllocFailed<T>) -> CheckFault {
+        CheckFault::Memory(error.into())
     }
 }

@@ -41,8 +41,11 @@ impl<'a> Flow<'a> {
     pub fn open_unless(&mut self, closed: bool, site: u32)
         ensures { Goes (opened closed site) self.old self.new tt }
     {
-        if !closed && self.open_ids.push(site).is_err() {
-            self.state.run_short();
+        if closed {
+            return;
+        }
+        if let Err(error) = self.open_ids.push(site) {
+            self.state.run_short(error.into());
         }
     }
 

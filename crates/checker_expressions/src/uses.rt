@@ -1,5 +1,5 @@
 //! The uses of what is accessed, which enter nothing: the states of its rows, and whether its site is closed.
-ghost use Rattle.std.specs.Prelude.{◌≡◌, ◌||◌, ◌&&◌, [], ◌∷◌, IfOk, true};
+ghost use Rattle.std.specs.Prelude.{◌≡◌, ◌||◌, ◌&&◌, [], ◌∷◌, IfOk, Some, true};
 ghost use Rattle.types.specs.Types.{is_structured};
 ghost use Rattle.checker_rows.specs.View.{numbers};
 ghost use Rattle.typed_tree.specs.Accesses.{origin_of};
@@ -18,6 +18,7 @@ use checker_state::{Known, Reach};
 use checker_trail::State;
 use domain::Domain;
 use domain::interval::Interval;
+use memory::Refused;
 use std::alloc::{AllocError, Global};
 use typed_tree::tree::{Access, Scalar};
 use types::TypeId;
@@ -92,7 +93,7 @@ impl<'a> Flow<'a> {
         let alloc = *self.open_ids.allocator();
         match ranges_of(alloc, &self.state, span) {
             Ok(ranges) => ranges,
-            Err(_) => self.no_ranges(),
+            Err(error) => self.no_ranges(error.into()),
         }
     }
 
@@ -103,15 +104,15 @@ impl<'a> Flow<'a> {
         let alloc = *self.open_ids.allocator();
         match Vec::from_slice(alloc, &[text_range(characters)]) {
             Ok(ranges) => ranges,
-            Err(_) => self.no_ranges(),
+            Err(error) => self.no_ranges(error.into()),
         }
     }
 
     // Memory ran out.
-    fn no_ranges(&mut self) -> Vec<Interval>
-        ensures { self.new.state.is_short ≡ true }
+    fn no_ranges(&mut self, refused: Refused) -> Vec<Interval>
+        ensures { self.new.state.refused ≡ Some refused }
     {
-        self.state.run_short();
+        self.state.run_short(refused);
         Vec::new(*self.open_ids.allocator())
     }
 }

@@ -273,8 +273,8 @@ impl<'a> Flow<'a> {
         ensures { Goes (give (map said_actual passed.old.items ++ said_actual actual.entry ∷ [])) self.old self.new
             (map said_actual passed.new.items) }
     {
-        if passed.push(actual).is_err() {
-            self.state.run_short();
+        if let Err(error) = passed.push(actual) {
+            self.state.run_short(error.into());
         }
     }
 

@@ -11,6 +11,7 @@ use crate::order::{wrong_around, wrong_at};
 use crate::resting::Resting;
 use checker_state::Held;
 use domain::interval::Interval;
+use std::alloc::{AllocError, AllocFailed};
 
 /// What is known of a row.
 #[derive(Clone, Copy)]
@@ -75,19 +76,22 @@ impl Known {
         }
     }
 
-    /// Makes a change. `false`: there is no memory for it.
-    pub fn make(&mut self, change: &Change) -> bool
-        ensures { OnTrue result (core self.new ≡ made change.now (core self.old)) }
+    /// Makes a change.
+    ///
+    /// # Errors
+    /// No memory for it.
+    pub fn make(&mut self, change: &Change) -> Result<(), AllocError>
+        ensures { OnOk result (core self.new ≡ made change.now (core self.old)) }
     {
         match change {
             Change::Row { row, now, .. } => self.set_row(*row, *now),
-            Change::Inserted { place, held } => return self.insert(*place, *held),
+            Change::Inserted { place, held } => self.insert(*place, *held)?,
             Change::Removed { place, .. } => self.remove(*place),
             Change::Replaced { place, now, .. } => self.replace(*place, *now),
             Change::Died => self.is_dead = true,
             Change::Revived => self.is_dead = false,
         }
-        true
+        self.resting.end()
     }
 
     fn set_row(&mut self, row: usize, now: Row)
@@ -98,8 +102,8 @@ impl Known {
         }
     }
 
-    fn insert(&mut self, place: usize, held: Held) -> bool
-        ensures { OnTrue result
+    fn insert(&mut self, place: usize, held: Held) -> Result<(), AllocFailed<Held>>
+        ensures { OnOk result
             (core self.new ≡ record (core self.old) { held = insert self.old.held.items place held }) }
     {
         let place = place.min(self.held.len());
@@ -110,9 +114,9 @@ impl Known {
                 self.disorder = self.disorder - was + wrong_around(&self.held, place);
                 recount(&mut self.knots, gone, knots_around(&self.held, place));
                 self.resting.list(&held);
-                true
+                Ok(())
             }
-            Err(_) => false,
+            Err(error) => Err(error),
         }
     }
 

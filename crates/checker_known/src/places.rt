@@ -12,24 +12,30 @@ use std::cmp::Ordering;
 
 impl Known {
     /// Where what a rebinding may change stands, each place behind the one before. `None`: it may stand anywhere.
-    pub fn changing(&mut self, alloc: Global, how: Rebinding) -> Option<Vec<usize>>
+    ///
+    /// # Errors
+    /// No memory.
+    pub fn changing(
+        &mut self,
+        alloc: Global,
+        how: Rebinding,
+    ) -> Result<Option<Vec<usize>>, AllocError>
         ensures same { core self.new ≡ core self.old }
-        ensures places { IfSome result (λ places. AreChanging how (map said_held self.old.held.items) places.items) }
+        ensures places { IfOk result (λ found. IfSome found
+            (λ places. AreChanging how (map said_held self.old.held.items) places.items)) }
     {
         if self.disorder > 0 || !self.resting.is_whole {
-            return None;
+            return Ok(None);
         }
         let root = root_of(how) as usize;
         if root >= self.resting.lists.len() {
-            return None;
+            return Ok(None);
         }
-        let Ok(places) = self.places_of(alloc, &self.resting.lists[root]) else {
-            return None;
-        };
+        let places = self.places_of(alloc, &self.resting.lists[root])?;
         if places.len() < self.resting.lists[root].len() {
-            self.relist(alloc, root, &places);
+            self.relist(alloc, root, &places)?;
         }
-        Some(places)
+        Ok(Some(places))
     }
 
     // Where those of a list are held, each place behind the one before.
@@ -75,16 +81,16 @@ impl Known {
         }
     }
 
-    // Lists by a variable what stands at places alone, if there is memory for it.
-    fn relist(&mut self, alloc: Global, root: usize, places: &[usize])
+    // Lists by a variable what stands at places alone.
+    fn relist(&mut self, alloc: Global, root: usize, places: &[usize]) -> Result<(), AllocError>
         requires { HaveAll (listed self.old.resting.lists.items root) (map said_held self.old.held.items) places.now }
         ensures { core self.new ≡ core self.old }
     {
-        if let Ok(list) = self.held_at(alloc, places) {
-            if let Some(found) = self.resting.lists.get_mut(root) {
-                *found = list;
-            }
+        let list = self.held_at(alloc, places)?;
+        if let Some(found) = self.resting.lists.get_mut(root) {
+            *found = list;
         }
+        Ok(())
     }
 
     // What is held at places.

@@ -1,12 +1,12 @@
-ghost use Rattle.std.specs.Prelude.{◌≡◌, ◌||◌, IfOk, Some, length, map, nat_eq, true};
-ghost use Rattle.std.specs.Bool.{OnTrue};
+ghost use Rattle.std.specs.Prelude.{◌≡◌, ◌||◌, IfOk, OnOk, Some, length, map, nat_eq, true};
 ghost use Rattle.checker_state.specs.Changes.{bound_rests_on, ordered, rests_on, span_rests_on};
 ghost use Rattle.checker_state.specs.State.{Stretched};
 ghost use Rattle.checker_state.specs.View.{said_bound, said_held, said_order, said_span, said_stretch};
 ghost use Rattle.checker_known.specs.Resting.{Lists, ListsMore, Puts, root_of};
 
 use checker_state::{Bound, Held, Order, Rebinding, Span, Stretch};
-use std::alloc::{AllocError, Global};
+use memory::Refused;
+use std::alloc::{AllocError, AllocFailed, Global};
 
 /// What is held, by the number of each variable on whose value it rests. A list may have what is held no longer, and
 /// the same twice.
@@ -16,6 +16,8 @@ pub struct Resting {
     pub(crate) lists: Vec<Vec<Held>>,
     /// `false`: something that is held may be in no list.
     pub(crate) is_whole: bool,
+    /// That a list couldn't grow.
+    pub(crate) refused: Option<Refused>,
 }
 
 impl Resting {
@@ -26,6 +28,7 @@ impl Resting {
         Resting {
             lists: Vec::new(alloc),
             is_whole: true,
+            refused: None,
         }
     }
 
@@ -40,6 +43,7 @@ impl Resting {
         Ok(Resting {
             lists,
             is_whole: true,
+            refused: None,
         })
     }
 
@@ -50,6 +54,14 @@ impl Resting {
         match held {
             Held::Stretched(stretch) => self.list_stretch(stretch, held),
             Held::Ordered(order) => self.list_order(order, held),
+        }
+    }
+
+    /// Whether all could be listed.
+    pub(crate) fn end(&self) -> Result<(), AllocError> {
+        match self.refused {
+            Some(refused) => Err(refused.into()),
+            None => Ok(()),
         }
     }
 
@@ -104,21 +116,22 @@ impl Resting {
         match self.lists.get_mut(root as usize) {
             None => self.is_whole = false,
             Some(list) => {
-                if !put(list, held) {
+                if let Err(error) = put(list, held) {
                     self.is_whole = false;
+                    self.refused = Some(error.into());
                 }
             }
         }
     }
 }
 
-// Puts something behind a list, unless it is its last. `false`: there is no memory for it.
-fn put(list: &mut Vec<Held>, held: &Held) -> bool
-    ensures { OnTrue result (Puts (said_held held.now) (map said_held list.old.items) (map said_held list.new.items)) }
+// Puts something behind a list, unless it is its last.
+fn put(list: &mut Vec<Held>, held: &Held) -> Result<(), AllocFailed<Held>>
+    ensures { OnOk result (Puts (said_held held.now) (map said_held list.old.items) (map said_held list.new.items)) }
 {
     match list.last() {
-        Some(last) if last.is_same(held) => true,
-        _ => list.push(*held).is_ok(),
+        Some(last) if last.is_same(held) => Ok(()),
+        _ => list.push(*held),
     }
 }
 

@@ -75,7 +75,7 @@ fn declare(rows: &mut Vec<Vec<u32>>, block: usize, root: u32) -> Result<(), Allo
 /// What is known where an activation of the block of a number begins (ISO 7185:1990, 6.2.3.2, 6.6.3.2), of which these
 /// facts are claimed, by the variables that each block declares. Before it nothing is known but by types.
 pub fn begin_block(state: &mut State, declared: &[Vec<u32>], block: u32, facts: &[Fact])
-    ensures long { state.new.is_short ≡ false → state.old.is_short ≡ false }
+    ensures long { state.new.refused ≡ None → state.old.refused ≡ None }
     ensures begins { map (λ row. row.items) declared.now ≡ all_declared state.old.table.now
         → seen state.old ≡ of_types (type_rows state.old.table.now)
         → Moves (λ _. block_start state.old.table.now block (map said_fact facts.now)) state.old state.new }

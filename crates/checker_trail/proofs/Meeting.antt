@@ -1,5 +1,5 @@
 -- Where two ways meet: what is known row by row, and what is held, is what is known behind both.
-use Rattle.std.proofs.Common.{arith, ◌≡◌, ◌⊎◌, ⊎_elim, inl, inr, ◌∙◌, sym, ap, ap₂, refl, subst, ℕ, ℤ, zero, suc, ◌<◌, Bool, true, false, cond, ◌&&◌, ◌||◌}
+use Rattle.std.proofs.Common.{None, arith, ◌≡◌, ◌⊎◌, ⊎_elim, inl, inr, ◌∙◌, sym, ap, ap₂, refl, subst, ℕ, ℤ, zero, suc, ◌<◌, Bool, true, false, cond, ◌&&◌, ◌||◌}
 use Rattle.std.proofs.Common.{int_lt}
 use Rattle.std.proofs.Common.{List, [], ◌∷◌, ◌++◌, filter, get_or, length, map, max, set}
 use Rattle.std.specs.List.{Contains, range_with_len}
@@ -268,7 +268,7 @@ pub record There (start s0 s2 s4 : Kept) (end : Core) (here : Branch) : Type 0 w
 pub been-there : {start s0 s1 s2 s3 s4 : Kept} (end : Core) (here there other : Branch) → Goes start s0 → EndsAt (core start.known) other end
     → Leaves start s0 s1 here → ((end : Core) → EndsAt (core s1.known) other end → Comes end s1 s2)
     → (Goes start s2 → Leaves start s2 s3 there) → ((end : Core) → EndsAt (core s3.known) here end → Comes end s3 s4)
-    → s1.is_short ≡ false → s2.is_short ≡ false → s3.is_short ≡ false → s4.is_short ≡ false → There start s0 s2 s4 end here
+    → s1.refused ≡ None → s2.refused ≡ None → s3.refused ≡ None → s4.refused ≡ None → There start s0 s2 s4 end here
 been-there {start = start} {s0 = s0} {s1 = s1} {s3 = s3} end here there other way ends leaves goes leaves_again goes_again long1 long2 long3 long4 =
     let first = leaves.unless_short long1 in
     let second = (goes end (ends-from (core s1.known) (core start.known) first.core_is ends)).unless_short long2 in
@@ -285,12 +285,12 @@ been-there {start = start} {s0 = s0} {s1 = s1} {s3 = s3} end here there other wa
     }
 
 pub meet-joins : {start s0 s2 s4 s5 : Kept} (end : Core) (here other : Branch) (held : List KeptHeld) (told : Told) → There start s0 s2 s4 end here
-    → s0.is_short ≡ false → s0.known.is_dead ≡ false → end.is_dead ≡ false → EndsAt (core start.known) other end → held ≡ s0.known.held.items
+    → s0.refused ≡ None → s0.known.is_dead ≡ false → end.is_dead ≡ false → EndsAt (core start.known) other end → held ≡ s0.known.held.items
     → AreTold (table_of s2.table.now) (core s2.known) held (rows_changed here.changes.items ++ rows_changed other.changes.items) told
     → ((there : Core) (rows : List ℕ) → s4.known.is_dead ≡ false → there.is_dead ≡ false
     → AreTold (table_of s4.table.now) there s4.known.held.items rows told → AreAlike rows (core s4.known) there
     → Moves (λ state. joined_states (table_of s4.table.now) state (seen_core there)) s4 s5)
-    → s5.is_short ≡ false → Joined start end s0 s5
+    → s5.refused ≡ None → Joined start end s0 s5
 meet-joins {start = start} {s0 = s0} {s2 = s2} {s4 = s4} {s5 = s5} end here other held told been long live end_live ends held_is are_told settles long5 =
     let rows = rows_changed here.changes.items ++ rows_changed other.changes.items in
     let same_held : held ≡ s4.known.held.items = held_is ∙ ap (λ (c : Core). c.held) (sym been.own_core) in
@@ -331,7 +331,7 @@ other-dead {state = state} end other way ends dead = record {
 
 pub own-dead : {start s0 s1 s2 : Kept} (end : Core) (here other : Branch) → Goes start s0 → EndsAt (core start.known) other end
     → s0.known.is_dead ≡ true → Leaves start s0 s1 here → ((end : Core) → EndsAt (core s1.known) other end → Comes end s1 s2)
-    → (s2.is_short ≡ false → s1.is_short ≡ false) → Joins start end s0 s2
+    → (s2.refused ≡ None → s1.refused ≡ None) → Joins start end s0 s2
 own-dead {start = start} {s0 = s0} {s1 = s1} end here other way ends dead leaves goes chain = record {
   unless_short = λ long.
       let first = leaves.unless_short (chain long) in
@@ -350,7 +350,7 @@ own-dead {start = start} {s0 = s0} {s1 = s1} end here other way ends dead leaves
 pub joins-behind : {start s0 s1 s2 s3 : Kept} (end : Core) (here other : Branch) → Goes start s0 → EndsAt (core start.known) other end
     → Leaves start s0 s1 here → ((end : Core) → EndsAt (core s1.known) other end → Comes end s1 s2)
     → (Goes start s2 → EndsAt (core start.known) here (core s0.known) → Joins start (core s0.known) s2 s3)
-    → (s2.is_short ≡ false → s1.is_short ≡ false) → (s3.is_short ≡ false → s2.is_short ≡ false) → JoinsBehind start end s0 s3
+    → (s2.refused ≡ None → s1.refused ≡ None) → (s3.refused ≡ None → s2.refused ≡ None) → JoinsBehind start end s0 s3
 joins-behind {start = start} {s0 = s0} {s1 = s1} {s2 = s2} end here other way ends leaves goes joins long1 long2 = record {
   unless_short = λ long.
       let first = leaves.unless_short (long1 (long2 long)) in

@@ -1,5 +1,5 @@
 -- Ways of the state of the program: one behind another, and each change forth and back.
-use Rattle.std.proofs.Common.{◌≡◌, ◌∙◌, sym, ap, ap₂, refl, Bool, true, false, cond, List, [], ◌∷◌, ◌++◌, append_assoc, append-nil, take, drop, length}
+use Rattle.std.proofs.Common.{None, ◌≡◌, ◌∙◌, sym, ap, ap₂, refl, Bool, true, false, cond, List, [], ◌∷◌, ◌++◌, append_assoc, append-nil, take, drop, length}
 use Rattle.std.proofs.Common.{ℕ, ◌+◌, ◌<◌, get_or, subst}
 use Rattle.std.proofs.lemmas.List.{drop_at, take_at, take_more}
 use Rattle.typed_tree.specs.declared.tree.Tree.{Tree}
@@ -139,13 +139,13 @@ moves-live step state is same =
 
 -- changes were made, one after another
 pub record MadeAll (changes : List Change) (old new : Kept) : Type 0 where
-  pub was_long : old.is_short ≡ false
+  pub was_long : old.refused ≡ None
   pub same_table : new.table.now ≡ old.table.now
   pub trail_is : new.trail.items ≡ old.trail.items ++ changes
   pub core_is : core new.known ≡ redone changes (core old.known)
 
 pub record HasMade (changes : List Change) (old new : Kept) : Type 0 where
-  pub unless_short : new.is_short ≡ false → MadeAll changes old new
+  pub unless_short : new.refused ≡ None → MadeAll changes old new
 
 pub made-none : (state : Kept) → HasMade [] state state
 made-none state = record {
@@ -178,13 +178,13 @@ made-next {a = a} {b = b} {c = c} changes there i one same inside is first makes
 
 -- changes were taken back, the last one first
 pub record TookAll (changes : List Change) (old new : Kept) : Type 0 where
-  pub was_long : old.is_short ≡ false
+  pub was_long : old.refused ≡ None
   pub same_table : new.table.now ≡ old.table.now
   pub same_trail : new.trail.items ≡ old.trail.items
   pub core_is : core new.known ≡ undone changes (core old.known)
 
 pub record HasTaken (changes : List Change) (old new : Kept) : Type 0 where
-  pub unless_short : new.is_short ≡ false → TookAll changes old new
+  pub unless_short : new.refused ≡ None → TookAll changes old new
 
 pub took-none : (state : Kept) → HasTaken [] state state
 took-none state = record {
@@ -272,13 +272,13 @@ left-seen left = ap seen_core left.core_is
 -- a way was taken back to its mark
 pub took-back : {start old new : Kept} {branch : Branch} (mark : ℕ) → mark ≡ length start.trail.items → Goes start old
     → ((start : Kept) → mark ≡ length start.trail.items → Goes start old → Leaves start old new branch)
-    → new.is_short ≡ false → Left start old new branch
+    → new.refused ≡ None → Left start old new branch
 took-back {start = start} mark is way back long = (back start is way).unless_short long
 
 -- on from there as a branch ended
 pub went-on : {start old new : Kept} {branch : Branch} {end : Core} → Goes start old → core old.known ≡ core start.known
     → EndsAt (core start.known) branch end → ((end : Core) → EndsAt (core old.known) branch end → Comes end old new)
-    → new.is_short ≡ false → Come end old new
+    → new.refused ≡ None → Come end old new
 went-on {start = start} {old = old} {end = end} way same ends comes long =
     (comes end (ends-from (core old.known) (core start.known) same ends)).unless_short long
 
@@ -294,7 +294,7 @@ pub ways-meet : {start one two other new : Kept} {branch : Branch} (mark : ℕ) 
     → Goes two other
     → ((start : Kept) (end : Core) → mark ≡ length start.trail.items → Goes start other → EndsAt (core start.known) branch end
     → JoinsBehind start end other new)
-    → new.is_short ≡ false → Met start.table.now start (seen one) (seen other) new
+    → new.refused ≡ None → Met start.table.now start (seen one) (seen other) new
 ways-meet {start = start} {one = one} {two = two} {other = other} mark is left rest meets long =
     let way = goes-then (goes-back left) rest in
     let met = (meets start (core one.known) is way left.ends).unless_short long in
@@ -307,10 +307,10 @@ ways-meet {start = start} {one = one} {two = two} {other = other} mark is left r
 pub moves-meet : {f g : State → State} {start one two other new : Kept} {branch : Branch} (mark : ℕ) → mark ≡ length start.trail.items
     → Moves f start one
     → ((start : Kept) → mark ≡ length start.trail.items → Goes start one → Leaves start one two branch)
-    → (two.is_short ≡ false → one.is_short ≡ false) → Moves g two other
+    → (two.refused ≡ None → one.refused ≡ None) → Moves g two other
     → ((start : Kept) (end : Core) → mark ≡ length start.trail.items → Goes start other → EndsAt (core start.known) branch end
     → JoinsBehind start end other new)
-    → (new.is_short ≡ false → other.is_short ≡ false)
+    → (new.refused ≡ None → other.refused ≡ None)
     → Moves (λ state. joined_states (table_of start.table.now) (f state) (g state)) start new
 moves-meet {f = f} {g = g} {start = start} {other = other} mark is first back long1 rest meets long2 = record {
   unless_short = λ long.

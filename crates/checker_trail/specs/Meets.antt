@@ -1,5 +1,5 @@
 -- Where two ways of the state of the program meet: the rows that are set, and what is known behind both.
-use Rattle.std.specs.Prelude.{◌≡◌, ◌⊎◌, ℕ, List, [], ◌∷◌, false, length}
+use Rattle.std.specs.Prelude.{None, ◌≡◌, ◌⊎◌, ℕ, List, [], ◌∷◌, false, length}
 use Rattle.std.specs.Prelude.{slice_index_or}
 use Rattle.std.specs.Prelude.{Contains}
 use Rattle.checker_known.specs.declared.known.Row.{Row}
@@ -25,18 +25,18 @@ pub record AreAlike (rows : List ℕ) (one other : Core) : Type 0 where
 
 -- a state that has come from a start meets another way from there
 pub record Joined (start : Kept) (end : Core) (old new : Kept) : Type 0 where
-  pub was_long : old.is_short ≡ false
+  pub was_long : old.refused ≡ None
   pub seen_is : seen new ≡ joined_states (table_of old.table.now) (seen old) (seen_core end)
   pub goes : Goes start new
 
 pub record Joins (start : Kept) (end : Core) (old new : Kept) : Type 0 where
-  pub unless_short : new.is_short ≡ false → Joined start end old new
+  pub unless_short : new.refused ≡ None → Joined start end old new
 
 -- the same where the other way was walked before
 pub record JoinedBehind (start : Kept) (end : Core) (old new : Kept) : Type 0 where
-  pub was_long : old.is_short ≡ false
+  pub was_long : old.refused ≡ None
   pub seen_is : seen new ≡ joined_states (table_of old.table.now) (seen_core end) (seen old)
   pub goes : Goes start new
 
 pub record JoinsBehind (start : Kept) (end : Core) (old new : Kept) : Type 0 where
-  pub unless_short : new.is_short ≡ false → JoinedBehind start end old new
+  pub unless_short : new.refused ≡ None → JoinedBehind start end old new

@@ -1,6 +1,6 @@
 -- How the state of the program changes: each change can be taken back, and stands on a trail until it is. It does not
 -- say which changes are made.
-use Rattle.std.specs.Prelude.{◌≡◌, false, List, [], ◌∷◌, ◌++◌, ℕ}
+use Rattle.std.specs.Prelude.{None, ◌≡◌, false, List, [], ◌∷◌, ◌++◌, ℕ}
 use Rattle.std.specs.Prelude.{take, drop}
 use Rattle.typed_tree.specs.declared.tree.Tree.{Tree}
 use Rattle.checker_trail.specs.declared.state.State.{State as Kept}
@@ -25,23 +25,23 @@ pub record Goes (old new : Kept) : Type 0 where
 
 -- what a step makes of what is seen; it was not short of memory
 pub record Moved (step : State → State) (old new : Kept) : Type 0 where
-  pub was_long : old.is_short ≡ false
+  pub was_long : old.refused ≡ None
   pub seen_is : seen new ≡ step (seen old)
   pub goes : Goes old new
 
 -- the same unless memory ran out
 pub record Moves (step : State → State) (old new : Kept) : Type 0 where
-  pub unless_short : new.is_short ≡ false → Moved step old new
+  pub unless_short : new.refused ≡ None → Moved step old new
 
 -- a single change
 pub record Made (change : Change) (old new : Kept) : Type 0 where
-  pub was_long : old.is_short ≡ false
+  pub was_long : old.refused ≡ None
   pub same_table : new.table.now ≡ old.table.now
   pub trail_is : new.trail.items ≡ old.trail.items ++ change ∷ []
   pub core_is : core new.known ≡ made change (core old.known)
 
 pub record Makes (change : Change) (old new : Kept) : Type 0 where
-  pub unless_short : new.is_short ≡ false → Made change old new
+  pub unless_short : new.refused ≡ None → Made change old new
 
 -- a state that is not short knows what types tell, and nothing can be taken back
 pub record Started (tree : Tree) (state : Kept) : Type 0 where
@@ -50,7 +50,7 @@ pub record Started (tree : Tree) (state : Kept) : Type 0 where
   pub no_trail : state.trail.items ≡ []
 
 pub record Starts (tree : Tree) (state : Kept) : Type 0 where
-  pub unless_short : state.is_short ≡ false → Started tree state
+  pub unless_short : state.refused ≡ None → Started tree state
 
 -- ---- branches
 
@@ -62,23 +62,23 @@ pub record EndsAt (start : Core) (branch : Branch) (end : Core) : Type 0 where
 
 -- a state is again as it was at its start, and the way from there ended where it was
 pub record Left (start old new : Kept) (branch : Branch) : Type 0 where
-  pub was_long : old.is_short ≡ false
+  pub was_long : old.refused ≡ None
   pub same_table : new.table.now ≡ start.table.now
   pub trail_is : new.trail.items ≡ start.trail.items
   pub core_is : core new.known ≡ core start.known
   pub ends : EndsAt (core start.known) branch (core old.known)
 
 pub record Leaves (start old new : Kept) (branch : Branch) : Type 0 where
-  pub unless_short : new.is_short ≡ false → Left start old new branch
+  pub unless_short : new.refused ≡ None → Left start old new branch
 
 -- a state has come to an end
 pub record Come (end : Core) (old new : Kept) : Type 0 where
-  pub was_long : old.is_short ≡ false
+  pub was_long : old.refused ≡ None
   pub core_is : core new.known ≡ end
   pub goes : Goes old new
 
 pub record Comes (end : Core) (old new : Kept) : Type 0 where
-  pub unless_short : new.is_short ≡ false → Come end old new
+  pub unless_short : new.refused ≡ None → Come end old new
 
 -- what is known of a row from here on, where a run comes
 abbrev pub with_state : ℕ → RowState → State → State
@@ -93,7 +93,7 @@ over_held change (Live facts) = Live (record facts { held = change facts.held })
 -- ---- steps of taking back
 
 pub record WasCut (length : ℕ) (old new : Kept) (changes : List Change) : Type 0 where
-  pub was_long : old.is_short ≡ false
+  pub was_long : old.refused ≡ None
   pub same_table : new.table.now ≡ old.table.now
   pub same_core : core new.known ≡ core old.known
   pub trail_is : new.trail.items ≡ take length old.trail.items
@@ -101,14 +101,14 @@ pub record WasCut (length : ℕ) (old new : Kept) (changes : List Change) : Type
 
 -- the changes from a length on were cut off
 pub record IsCut (length : ℕ) (old new : Kept) (changes : List Change) : Type 0 where
-  pub unless_short : new.is_short ≡ false → WasCut length old new changes
+  pub unless_short : new.refused ≡ None → WasCut length old new changes
 
 pub record TakenBack (change : Change) (old new : Kept) : Type 0 where
-  pub was_long : old.is_short ≡ false
+  pub was_long : old.refused ≡ None
   pub same_table : new.table.now ≡ old.table.now
   pub same_trail : new.trail.items ≡ old.trail.items
   pub core_is : core new.known ≡ made (inverse change) (core old.known)
 
 -- a change was taken back
 pub record TakesBack (change : Change) (old new : Kept) : Type 0 where
-  pub unless_short : new.is_short ≡ false → TakenBack change old new
+  pub unless_short : new.refused ≡ None → TakenBack change old new

@@ -98,8 +98,9 @@ impl<'a> State<'a> {
         ensures { Moves (over_held (filter_map (held_by how))) self.old self.new }
     {
         match self.known.changing(self.alloc, how) {
-            None => self.rebind_all(how),
-            Some(places) => self.rebind_each(&places, how),
+            Err(error) => self.run_short(error.into()),
+            Ok(None) => self.rebind_all(how),
+            Ok(Some(places)) => self.rebind_each(&places, how),
         }
     }
 

@@ -13,7 +13,7 @@ use checker_known::{Branch, Row, Told};
 impl<'a> State<'a> {
     /// What is known where the way since a mark meets a branch that began there.
     pub fn join(&mut self, mark: Mark, other: &Branch)
-        ensures long { self.new.is_short ≡ false → self.old.is_short ≡ false }
+        ensures long { self.new.refused ≡ None → self.old.refused ≡ None }
         ensures meets { (start : Kept) (end : Core) → mark.length ≡ length start.trail.items
             → Goes start self.old → EndsAt (core start.known) other.now end → Joins start end self.old self.new }
     {
@@ -29,7 +29,7 @@ impl<'a> State<'a> {
 
     /// What is known where the way since a mark meets a branch that began there and was walked before it.
     pub fn join_behind(&mut self, mark: Mark, first: &Branch)
-        ensures long { self.new.is_short ≡ false → self.old.is_short ≡ false }
+        ensures long { self.new.refused ≡ None → self.old.refused ≡ None }
         ensures meets { (start : Kept) (end : Core) → mark.length ≡ length start.trail.items
             → Goes start self.old → EndsAt (core start.known) first.now end
             → JoinsBehind start end self.old self.new }
@@ -41,21 +41,22 @@ impl<'a> State<'a> {
 
     // The same where runs come to the ends of both.
     fn meet(&mut self, mark: Mark, other: &Branch)
-        ensures long { self.new.is_short ≡ false → self.old.is_short ≡ false }
+        ensures long { self.new.refused ≡ None → self.old.refused ≡ None }
         ensures meets { (start : Kept) (end : Core) → mark.length ≡ length start.trail.items
             → Goes start self.old → EndsAt (core start.known) other.now end → self.old.known.is_dead ≡ false
             → end.is_dead ≡ false → Joins start end self.old self.new }
     {
-        let Ok(asked) = self.known.asked(self.alloc) else {
-            return self.run_short();
+        let asked = match self.known.asked(self.alloc) {
+            Ok(asked) => asked,
+            Err(error) => return self.run_short(error.into()),
         };
         let here = self.leave(mark);
         self.go(other);
-        let Ok(told) = self
+        let told = match self
             .known
-            .tell(self.alloc, self.table, &asked, &here, other)
-        else {
-            return self.run_short();
+            .tell(self.alloc, self.table, &asked, &here, other) {
+            Ok(told) => told,
+            Err(error) => return self.run_short(error.into()),
         };
         let _there = self.leave(mark);
         self.go(&here);
@@ -64,18 +65,20 @@ impl<'a> State<'a> {
 
     // What is known here and at the end of another way, which tells of what is held here.
     fn settle(&mut self, told: &Told)
-        ensures long { self.new.is_short ≡ false → self.old.is_short ≡ false }
+        ensures long { self.new.refused ≡ None → self.old.refused ≡ None }
         ensures meets { (there : Core) (rows : List ℕ) → self.old.known.is_dead ≡ false → there.is_dead ≡ false
             → AreTold (table_of self.old.table.now) there self.old.known.held.items rows told.now
             → AreAlike rows (core self.old.known) there
             → Moves (λ state. joined_states (table_of self.old.table.now) state (seen_core there))
             self.old self.new }
     {
-        let Ok(more) = self.known.given(self.alloc, self.table, &told.held) else {
-            return self.run_short();
+        let more = match self.known.given(self.alloc, self.table, &told.held) {
+            Ok(more) => more,
+            Err(error) => return self.run_short(error.into()),
         };
-        let Ok(rows) = self.known.joined(self.alloc, self.table, &told.rows) else {
-            return self.run_short();
+        let rows = match self.known.joined(self.alloc, self.table, &told.rows) {
+            Ok(rows) => rows,
+            Err(error) => return self.run_short(error.into()),
         };
         self.retain(&told.kept);
         self.hold_all(&more);

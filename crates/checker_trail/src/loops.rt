@@ -126,7 +126,7 @@ impl<'a> State<'a> {
                 self.retain_none();
                 self.hold_all(&held);
             }
-            Err(_) => self.run_short(),
+            Err(error) => self.run_short(error.into()),
         }
     }
 

@@ -17,9 +17,9 @@ impl<'a> State<'a> {
                 alloc,
                 known,
                 trail: Vec::new(alloc),
-                is_short: false,
+                refused: None,
             },
-            Err(_) => State {
+            Err(error) => State {
                 table,
                 alloc,
                 known: Known {
@@ -31,7 +31,7 @@ impl<'a> State<'a> {
                     is_dead: false,
                 },
                 trail: Vec::new(alloc),
-                is_short: true,
+                refused: Some(error.into()),
             },
         }
     }

@@ -1,4 +1,4 @@
-ghost use Rattle.std.specs.Prelude.{◌≡◌, false, length, true};
+ghost use Rattle.std.specs.Prelude.{◌≡◌, None, Some, length};
 ghost use Rattle.checker_trail.specs.declared.state.State.{State as Kept};
 ghost use Rattle.checker_state.specs.State.{Dead, State as Seen, at_most, has_value, is_dead, is_defined, range_of};
 ghost use Rattle.checker_state.specs.State.{unless_empty, with_defined, with_range};
@@ -15,6 +15,7 @@ use checker_rows::Rows;
 use checker_state::{Bound, Held, Term};
 use domain::Domain;
 use domain::interval::Interval;
+use memory::Refused;
 use std::alloc::Global;
 
 /// What the checker knows at a point of a program. What it did since a mark can be taken back. Where memory ran out, it
@@ -26,7 +27,7 @@ pub struct State<'a> {
     pub(crate) known: Known,
     /// What was changed, the last change last.
     pub(crate) trail: Vec<Change>,
-    pub(crate) is_short: bool,
+    pub(crate) refused: Option<Refused>,
 }
 
 /// How far a state had come.
@@ -36,11 +37,11 @@ pub struct Mark {
 }
 
 impl<'a> State<'a> {
-    /// Whether memory ran out.
-    pub fn is_short(&self) -> bool
-        ensures { result ≡ self.now.is_short }
+    /// That memory ran out, where it did.
+    pub fn refusal(&self) -> Option<Refused>
+        ensures { result ≡ self.now.refused }
     {
-        self.is_short
+        self.refused
     }
 
     /// Whether no run comes here.
@@ -161,24 +162,27 @@ impl<'a> State<'a> {
 }
 
 impl<'a> State<'a> {
-    /// Memory ran out.
-    pub fn run_short(&mut self)
-        ensures short { self.new.is_short ≡ true }
+    /// Memory ran out, as was refused.
+    pub fn run_short(&mut self, refused: Refused)
+        ensures short { self.new.refused ≡ Some refused }
         ensures moves { (step : Seen → Seen) → Moves step self.old self.new }
     {
-        self.is_short = true;
+        self.refused = Some(refused);
     }
 
     /// Makes a change, and puts it on the trail.
     pub(crate) fn make(&mut self, change: &Change)
         ensures { Makes change.now self.old self.new }
     {
-        if self.is_short {
+        if self.refused.is_some() {
             return;
         }
-        match self.trail.push(*change) {
-            Ok(()) => self.is_short = !self.known.make(change),
-            Err(_) => self.is_short = true,
+        if let Err(error) = self.trail.push(*change) {
+            self.refused = Some(error.into());
+            return;
+        }
+        if let Err(error) = self.known.make(change) {
+            self.refused = Some(error.into());
         }
     }
 
@@ -193,7 +197,7 @@ impl<'a> State<'a> {
 
     /// Takes back what was done since a mark, and gives how the way from there ended.
     pub fn leave(&mut self, mark: Mark) -> Branch
-        ensures long { self.new.is_short ≡ false → self.old.is_short ≡ false }
+        ensures long { self.new.refused ≡ None → self.old.refused ≡ None }
         ensures back { (start : Kept) → mark.length ≡ length start.trail.items → Goes start self.old
             → Leaves start self.old self.new result }
     {
@@ -212,8 +216,8 @@ impl<'a> State<'a> {
         let place = mark.length.min(self.trail.len());
         match self.trail.split_off(place) {
             Ok(changes) => changes,
-            Err(_) => {
-                self.is_short = true;
+            Err(error) => {
+                self.refused = Some(error.into());
                 Vec::new(self.alloc)
             }
         }
@@ -223,14 +227,14 @@ impl<'a> State<'a> {
     fn take_back(&mut self, change: &Change)
         ensures { TakesBack change.now self.old self.new }
     {
-        if !self.known.make(&change.inverse()) {
-            self.is_short = true;
+        if let Err(error) = self.known.make(&change.inverse()) {
+            self.refused = Some(error.into());
         }
     }
 
     /// Goes on as a branch from here ended.
     pub fn go(&mut self, branch: &Branch)
-        ensures long { self.new.is_short ≡ false → self.old.is_short ≡ false }
+        ensures long { self.new.refused ≡ None → self.old.refused ≡ None }
         ensures comes { (end : Core) → EndsAt (core self.old.known) branch.now end → Comes end self.old self.new }
     {
         for change in &branch.changes {

@@ -99,8 +99,9 @@ impl<'a> State<'a> {
         if self.known.is_dead {
             return;
         }
-        let Ok(beside) = self.known.beside(self.alloc, row, index) else {
-            return self.run_short();
+        let beside = match self.known.beside(self.alloc, row, index) {
+            Ok(beside) => beside,
+            Err(error) => return self.run_short(error.into()),
         };
         self.remove_all(&beside.places);
         if beside.longer.is_empty() {

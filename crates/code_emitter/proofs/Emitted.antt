@@ -32,12 +32,12 @@ both l m code (Ok more) (Ok all) p q h k = (
   k.0 ∙ ap (λ d. d ++ q) h.0 ∙ append_assoc code p q,
   ap (λ n. n || m) h.1 ∙ k.1,
 )
-both l m code (Ok more) (Err Memory) p q h k = tt
+both l m code (Ok more) (Err (Memory _)) p q h k = tt
 both l m code (Ok more) (Err TooLarge) p q h k =
     ap (λ n. nat_lt 1000000 (length (code ++ (p ++ q))) || (n || m)) h.1
     ∙ ap (λ d. nat_lt 1000000 (length d) || m) (sym (append_assoc code p q) ∙ ap (λ d. d ++ q) (sym h.0))
     ∙ k
-both l m code (Err Memory) c p q h k = subst (λ d. HasCode (l || m) d (code ++ (p ++ q))) (sym k) tt
+both l m code (Err (Memory _)) c p q h k = subst (λ d. HasCode (l || m) d (code ++ (p ++ q))) (sym k) tt
 both l m code (Err TooLarge) c p q h k =
     subst (λ d. HasCode (l || m) d (code ++ (p ++ q))) (sym k)
     (larger _ (length (code ++ p)) (length (code ++ (p ++ q))) l m refl
@@ -69,7 +69,7 @@ place_behind {l = l} {a = a} {b = b} {p = p} g kept = placed_behind l a b p g.mo
 -- the same piece in other words; as far as it rests on where it ends, only where that is known
 alike : (l : Bool) (a b : Seen) (p q : List Instr) → HasMore l a b p → (IsKept a → length p ≡ length q) → (IsKept b → p ≡ q) → HasMore l a b q
 alike l (Ok code) (Ok more) p q h long same = (h.0 ∙ ap (λ d. code ++ d) (same tt), h.1)
-alike l (Ok code) (Err Memory) p q h long same = tt
+alike l (Ok code) (Err (Memory _)) p q h long same = tt
 alike l (Ok code) (Err TooLarge) p q h long same =
     ap (λ n. nat_lt 1000000 n || l) (length-append code q ∙ ap (λ n. length code + n) (sym (long tt)) ∙ sym (length-append code p)) ∙ h
 alike l (Err loss) b p q h long same = h
@@ -97,11 +97,11 @@ filled (Ok code) (Ok more) (Ok all) hole i i' q h k same = (
       ∙ ap (λ j. code ++ (j ∷ q)) (same tt),
   refl,
 )
-filled (Ok code) (Ok more) (Err Memory) hole i i' q h k same = tt
+filled (Ok code) (Ok more) (Err (Memory _)) hole i i' q h k same = tt
 filled (Ok code) (Ok more) (Err TooLarge) hole i i' q h k same =
     ap (λ n. nat_lt 1000000 n || false)
     (length-append code (i' ∷ q) ∙ sym (length-append code (hole ∷ q)) ∙ ap length (sym (append_assoc code (hole ∷ []) q) ∙ ap (λ d. d ++ q) (sym h.0))) ∙ k
-filled (Ok code) (Err Memory) c hole i i' q h k same =
+filled (Ok code) (Err (Memory _)) c hole i i' q h k same =
     subst (λ d. HasCode false (with_instr (length code) i d) (code ++ (i' ∷ q))) (sym k) tt
 filled (Ok code) (Err TooLarge) c hole i i' q h k same =
     subst (λ d. HasCode false (with_instr (length code) i d) (code ++ (i' ∷ q))) (sym k)

@@ -5,6 +5,7 @@ use Rattle.std.specs.Prelude.{ℤ, slice_set}
 use Rattle.std.specs.Global.{Vec}
 use Rattle.std.proofs.Math.Nat.{add-zero}
 use Rattle.std.proofs.Math.Seq.{set-append_seam}
+use Rattle.memory.specs.Refused.{the_refusal}
 use Rattle.pcode_assembler.specs.declared.instr.Instr.{Instr}
 use Rattle.pcode_assembler.specs.declared.instr.Instr.TheVariants as instr
 use Rattle.typed_tree.specs.declared.tree.CaseHead.{CaseHead}
@@ -276,8 +277,8 @@ module _ (scope : Scope) (out : ℕ) where
       ∙ ap (λ j. with_each (jumps_out scope rows arms (length code)) j (Ok all)) (leads tt)
       ∙ ap (λ c. with_each (jumps_out scope rows arms (length code)) (instr.Jump out) (Ok c)) h.0
       ∙ outs_set rows arms code tail (length code) refl)) (refl, refl)
-  all_set (Ok code) (Err Memory) f rows arms tail outs i h places leads =
-      subst (λ s. HasMore false (Ok code) s (arms_code scope out rows arms (length code) ++ tail)) (sym (each_lost outs i Memory)) tt
+  all_set (Ok code) (Err (Memory _)) f rows arms tail outs i h places leads =
+      subst (λ s. HasMore false (Ok code) s (arms_code scope out rows arms (length code) ++ tail)) (sym (each_lost outs i (Memory the_refusal))) tt
   all_set (Ok code) (Err TooLarge) f rows arms tail outs i h places leads =
       subst (λ s. HasMore false (Ok code) s (arms_code scope out rows arms (length code) ++ tail)) (sym (each_lost outs i TooLarge))
       (ap (λ n. nat_lt 1000000 n || false)

@@ -16,7 +16,7 @@ seen code (Some loss) = Err loss
 
 -- a loss that the code itself has brought
 abbrev pub is_large : Loss → Bool
-is_large Memory = false
+is_large (Memory _) = false
 is_large TooLarge = true
 
 -- it isn't lost
@@ -42,7 +42,7 @@ with_each (place ∷ places) i seen = with_each places i (with_instr place i see
 -- maybe for want of memory anywhere
 abbrev pub HasCode : Bool → Seen → List Instr → Type 0
 HasCode large (Ok code) whole = (code ≡ whole) × (large ≡ false)
-HasCode large (Err Memory) whole = Unit {0}
+HasCode large (Err (Memory _)) whole = Unit {0}
 HasCode large (Err TooLarge) whole = (nat_lt 1000000 (length whole) || large) ≡ true
 
 abbrev pub HasMore : Bool → Seen → Seen → List Instr → Type 0

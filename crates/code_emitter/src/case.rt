@@ -7,7 +7,7 @@ ghost use Rattle.code_emitter.specs.Emitted.{place_of, Gets, IsKept};
 ghost use Rattle.code_emitter.specs.Pieces.{arm_code, arm_end, jumps_out};
 
 use crate::emit::emit_stmt;
-use crate::emitter::{Emitter, Loss};
+use crate::emitter::Emitter;
 use crate::expression::emit_expr;
 use crate::instrs::load;
 use code_scheme::scope::Scope;
@@ -84,8 +84,8 @@ fn keep_out(code: &mut Emitter, outs: &mut Vec<u32>, out: u32)
     ensures emits { Gets code.old code.new [] }
     ensures outs { IsKept code.new → outs.new.items ≡ outs.old.items ++ out ∷ [] }
 {
-    if outs.push(out).is_err() {
-        code.lose(Loss::Memory);
+    if let Err(error) = outs.push(out) {
+        code.lose(error.into());
     }
 }
 

@@ -1,8 +1,10 @@
 ghost use Rattle.std.specs.Prelude.{◌≡◌, ◌≤◌, [], ◌∷◌, IfOk, MatchResult, length};
 ghost use Rattle.pcode_assembler.specs.declared.instr.Instr.TheVariants.{Jump};
+ghost use Rattle.memory.specs.Refused.{the_refusal};
 ghost use Rattle.code_emitter.specs.declared.emitter.Loss.TheVariants.{Memory};
 ghost use Rattle.code_emitter.specs.Emitted.{is_large, place_of, with_each, with_instr, Gets, Grows, IsKept};
 
+use memory::Refused;
 use pcode_assembler::instr::Instr;
 use std::alloc::{AllocError, AllocFailed, Global};
 use std::marker::Model;
@@ -13,23 +15,23 @@ const MOST: usize = 1000000;
 /// Why there is no code.
 #[derive(Clone, Copy)]
 pub enum Loss {
-    Memory,
+    Memory(Refused),
     TooLarge,
 }
 
 impl From<AllocError> for Loss {
-    ghost from_gives = { λ _ loss. loss ≡ Memory };
+    ghost from_gives = { λ _ loss. loss ≡ Memory the_refusal };
 
-    fn from(_error: AllocError) -> Loss {
-        Loss::Memory
+    fn from(error: AllocError) -> Loss {
+        Loss::Memory(error.into())
     }
 }
 
 impl<T: Drop> From<AllocFailed<T>> for Loss {
-    ghost from_gives = { λ _ loss. loss ≡ Memory };
+    ghost from_gives = { λ _ loss. loss ≡ Memory the_refusal };
 
-    fn from(_error: AllocFailed<T>) -> Loss {
-        Loss::Memory
+    fn from(error: AllocFailed<T>) -> Loss {
+        Loss::Memory(error.into())
     }
 }
 
@@ -97,8 +99,8 @@ impl Emitter {
             self.lost = Some(Loss::TooLarge);
             return;
         }
-        if self.code.extend_from_slice(instrs).is_err() {
-            self.lost = Some(Loss::Memory);
+        if let Err(error) = self.code.extend_from_slice(instrs) {
+            self.lost = Some(error.into());
         }
     }
 

@@ -7,7 +7,7 @@ ghost use Rattle.code_emitter.specs.Emitted.{place_of, Gets, IsKept};
 ghost use Rattle.code_emitter.specs.Pieces.{among, record_code};
 
 use crate::emit::emit_stmt;
-use crate::emitter::{Emitter, Loss};
+use crate::emitter::Emitter;
 use crate::expression::emit_address;
 use code_scheme::home::Home;
 use code_scheme::scope::Scope;
@@ -50,8 +50,8 @@ fn held_records(code: &mut Emitter, scope: &Scope) -> Vec<Home>
     ensures few { scope.now.next ≤ 16777216 }
 {
     let mut held = Vec::new(code.alloc());
-    if held.extend_from_slice(scope.records()).is_err() {
-        code.lose(Loss::Memory);
+    if let Err(error) = held.extend_from_slice(scope.records()) {
+        code.lose(error.into());
     }
     held
 }
@@ -106,8 +106,8 @@ fn keep_record(code: &mut Emitter, held: &mut Vec<Home>, home: Home)
     ensures emits { Gets code.old code.new [] }
     ensures held { IsKept code.new → held.new.items ≡ held.old.items ++ home ∷ [] }
 {
-    if held.push(home).is_err() {
-        code.lose(Loss::Memory);
+    if let Err(error) = held.push(home) {
+        code.lose(error.into());
     }
 }
 

@@ -1,8 +1,10 @@
 ghost use Rattle.std.specs.Prelude.{◌≡◌};
+ghost use Rattle.memory.specs.Refused.{the_refusal};
 ghost use Rattle.code_generator.specs.declared.fault.GenFault.TheVariants.{Memory};
 ghost use Rattle.code_generator.specs.Faults.{fault_of};
 
 use code_emitter::emitter::Loss;
+use memory::Refused;
 use std::alloc::{AllocError, AllocFailed};
 use thiserror::Error;
 
@@ -10,7 +12,7 @@ use thiserror::Error;
 #[derive(Clone, Copy, Debug, Error)]
 pub enum GenFault {
     #[error("no memory")]
-    Memory,
+    Memory(Refused),
     /// G1: over 1,000,000 instructions, or a block with over 65,536 cells of parameters. No program text has what it is
     /// told of too: a frame of over 16,777,216 cells, and sites or points for which a text of code has no room.
     #[error("code that is too large")]
@@ -18,18 +20,18 @@ pub enum GenFault {
 }
 
 impl From<AllocError> for GenFault {
-    ghost from_gives = { λ _ e. e ≡ Memory };
+    ghost from_gives = { λ _ e. e ≡ Memory the_refusal };
 
-    fn from(_error: AllocError) -> GenFault {
-        GenFault::Memory
+    fn from(error: AllocError) -> GenFault {
+        GenFault::Memory(error.into())
     }
 }
 
 impl<T: Drop> From<AllocFailed<T>> for GenFault {
-    ghost from_gives = { λ _ e. e ≡ Memory };
+    ghost from_gives = { λ _ e. e ≡ Memory the_refusal };
 
-    fn from(_error: AllocFailed<T>) -> GenFault {
-        GenFault::Memory
+    fn from(error: AllocFailed<T>) -> GenFault {
+        GenFault::Memory(error.into())
     }
 }
 
@@ -38,7 +40,7 @@ impl From<Loss> for GenFault {
 
     fn from(loss: Loss) -> GenFault {
         match loss {
-            Loss::Memory => GenFault::Memory,
+            Loss::Memory(refused) => GenFault::Memory(refused),
             Loss::TooLarge => GenFault::TooLarge,
         }
     }

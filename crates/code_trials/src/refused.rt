@@ -9,7 +9,7 @@ use std::test::Fail;
 fn told(alloc: Global, text: &str) -> Result<String, AllocError> {
     match assemble(alloc, text.as_bytes()) {
         Ok(_) => Ok(String::new(alloc)),
-        Err(AsmFault::Memory) => Err(AllocError),
+        Err(AsmFault::Memory(refused)) => Err(refused.into()),
         Err(fault) => format!(in alloc; "{fault}"),
     }
 }
@@ -127,7 +127,7 @@ fn refuses_beginnings(rt: HostRuntime) -> Result<(), Fail> {
     for end in 0..text.len() {
         match assemble(rt.alloc(), &text[..end]) {
             Err(AsmFault::Refused { rule, .. }) => assert_eq!(rt; rule.number(), 6, "at {end}"),
-            Err(AsmFault::Memory) => return Err(AllocError.into()),
+            Err(AsmFault::Memory(refused)) => return Err(AllocError::from(refused).into()),
             Ok(_) => assert!(rt; false, "at {end}"),
         }
     }

@@ -1,5 +1,6 @@
 -- What the words of both commands are made of: the kinds of arguments as clap has them, and why words are not taken.
 use Rattle.std.specs.Prelude.{◌≡◌, ⊤, Bool, true, false, codes, fold, List, [], Option, Some, None, is_some}
+use Rattle.memory.specs.Refused.{the_refusal}
 use Rattle.clap.specs.Words.{App, IsAmong, Rule, Text, app_of, args_of, first_value, found_of, groups_of}
 use Rattle.clap.specs.Words.{kind_of, new_app, new_rule, with_rule}
 use Rattle.clap.specs.Built.{IsParsedFrom}
@@ -17,7 +18,7 @@ use Rattle.command_line.specs.declared.WordsFault.TheVariants.{Memory, Words}
 
 -- a fault of clap: want of memory is told alike wherever it comes from
 abbrev pub words_fault : ErrorKind → Error → WordsFault
-words_fault kind.OutOfMemory error = Memory
+words_fault kind.OutOfMemory error = Memory the_refusal
 words_fault _ error = Words error
 
 -- the option `--NAME VALUE`
@@ -65,5 +66,5 @@ pub record IsFlag (text : Option Text) (flag : Bool) : Type 0 where
 
 -- words that a command doesn't take: there is no memory, or they have a fault, of a kind that is told
 abbrev pub IsWordsFault : App → List Text → WordsFault → Type 0
-IsWordsFault command words Memory = ⊤
+IsWordsFault command words (Memory _) = ⊤
 IsWordsFault command words (Words error) = IsAmong (kind_of error) (fault_of command words)

@@ -5,8 +5,10 @@ ghost use Rattle.std.specs.Prelude.{◌≡◌, ◌≢◌, ◌↔◌, IfOk, IsTru
 ghost use Rattle.clap.specs.Words.{kind_of};
 ghost use Rattle.clap.specs.declared.error.kind.ErrorKind.TheVariants as ErrorKind;
 ghost use Rattle.command_line.specs.Words.{words_fault};
+ghost use Rattle.memory.specs.Refused.{the_refusal};
 ghost use Rattle.command_line.specs.declared.WordsFault.TheVariants.{Memory};
 
+use memory::Refused;
 use std::alloc::{AllocError, Global};
 
 mod parts;
@@ -26,16 +28,16 @@ pub enum CommandName {
 /// Why words are not taken, and the text to print.
 #[derive(Drop)]
 pub enum WordsFault {
-    Memory,
+    Memory(Refused),
     /// The help, the version or a fault, as clap tells it.
     Words(clap::Error),
 }
 
 impl From<AllocError> for WordsFault {
-    ghost from_gives = { λ _ e. e ≡ Memory };
+    ghost from_gives = { λ _ e. e ≡ Memory the_refusal };
 
-    fn from(_error: AllocError) -> WordsFault {
-        WordsFault::Memory
+    fn from(error: AllocError) -> WordsFault {
+        WordsFault::Memory(error.into())
     }
 }
 
@@ -44,7 +46,7 @@ impl From<clap::Error> for WordsFault {
 
     fn from(error: clap::Error) -> WordsFault {
         match error.kind() {
-            clap::error::ErrorKind::OutOfMemory => WordsFault::Memory,
+            clap::error::ErrorKind::OutOfMemory => WordsFault::Memory(AllocError.into()),
             _ => WordsFault::Words(error),
         }
     }

@@ -1,6 +1,7 @@
 -- Members of a set that were read so far, by the designators and the values that a tree keeps of them.
 use Rattle.std.proofs.Common.{◌≡◌, ◌+◌, ◌<◌, List, [], ◌∷◌, ◌++◌, length, Result, Some, None, Ok, Err, refl, sym, ap, subst, ◌∙◌, arith}
 use Rattle.std.proofs.Common.{length-append}
+use Rattle.memory.specs.Refused.{the_refusal}
 use Rattle.place.specs.declared.Place.{Place}
 use Rattle.lexer.specs.declared.token.Symbol.TheVariants as symbol
 use Rattle.lexer.specs.declared.token.Token.{Token}
@@ -77,7 +78,7 @@ module _ (outcome : Outcome Outline) (new : Cursor) (before after : List Expr) (
   was_member (Err why) h p = absurd p
 
   pub no_member : (found : Result Designator Refusal) (why : Refusal) → MakesMember outcome found new before after → Puts ds found (Err why) ds'
-      → (¬ (why ≡ Memory)) → outcome ≡ Err (why, new.rest.now)
+      → (¬ (why ≡ Memory the_refusal)) → outcome ≡ Err (why, new.rest.now)
   no_member (Ok d) why h p m = let e : ◌≡◌ {A = Result Designator Refusal} (Ok d) (Err why) = p m in absurd cc
   no_member (Err other) why h p m =
       let e : ◌≡◌ {A = Result Designator Refusal} (Err other) (Err why) = p m in let is : other ≡ why = cc in

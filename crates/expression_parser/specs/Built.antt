@@ -3,6 +3,7 @@
 use Rattle.std.specs.Prelude.{◌≡◌, false, List, map, Result, MatchResult}
 use Rattle.std.specs.declared.alloc.Global.{Global}
 use Rattle.std.specs.declared.vec.Vec.{Vec}
+use Rattle.memory.specs.Refused.{the_refusal}
 use Rattle.syntax_tree.specs.declared.Expr.{Expr}
 use Rattle.syntax_tree.specs.declared.Link.{Link}
 use Rattle.syntax_tree.specs.declared.Actual.{Actual}
@@ -17,7 +18,7 @@ use Rattle.token_cursor.specs.declared.cursor.Cursor.{Cursor}
 
 -- an expression of this outline, unless memory runs out
 abbrev pub IsBuilt : Outline → Result Expr Refusal → Type 0
-IsBuilt outline result = MatchResult result (λ e. expr_outline e ≡ outline) (λ why. why ≡ Memory)
+IsBuilt outline result = MatchResult result (λ e. expr_outline e ≡ outline) (λ why. why ≡ Memory the_refusal)
 
 -- a form round an expression, whatever made that: it is made as the expression was, and then so built of it
 abbrev pub Builds : (Outline → Outline) → Result Expr Refusal → Result Expr Refusal → Type 0

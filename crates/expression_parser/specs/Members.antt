@@ -3,6 +3,7 @@
 use Rattle.std.specs.Prelude.{◌≡◌, List, [], ◌∷◌, ◌++◌, length, map, Result, Ok, Err}
 use Rattle.std.specs.declared.alloc.Global.{Global}
 use Rattle.std.specs.declared.vec.Vec.{Vec}
+use Rattle.memory.specs.Refused.{the_refusal}
 use Rattle.syntax_tree.specs.Places.{members_of}
 use Rattle.syntax_tree.specs.declared.Designator.{Designator}
 use Rattle.syntax_tree.specs.declared.Designator.TheVariants.{Single, Range}
@@ -25,7 +26,7 @@ abbrev pub MakesMembers : Outcome (List Outline) → Result (Vec Designator Glob
 MakesMembers outcome (Ok made) new =
     (values_of made.0.items ≡ length made.1.items)
     × (outcome ≡ Ok (members_look made.0.items made.1.items, new.rest.now))
-MakesMembers outcome (Err why) new = (¬ (why ≡ Memory)) → outcome ≡ Err (why, new.rest.now)
+MakesMembers outcome (Err why) new = (¬ (why ≡ Memory the_refusal)) → outcome ≡ Err (why, new.rest.now)
 
 -- a member is made, its values put behind the others; or it stops
 abbrev pub MakesMember : Outcome Outline → Result Designator Refusal → Cursor → List Expr → List Expr → Type 0
@@ -34,4 +35,4 @@ MakesMember outcome (Ok Single) new before after =
 MakesMember outcome (Ok Range) new before after =
     (first : Expr) × (last : Expr) × (after ≡ before ++ first ∷ last ∷ [])
     × (outcome ≡ Ok (form.range (expr_outline first) (expr_outline last), new.rest.now))
-MakesMember outcome (Err why) new before after = (¬ (why ≡ Memory)) → outcome ≡ Err (why, new.rest.now)
+MakesMember outcome (Err why) new before after = (¬ (why ≡ Memory the_refusal)) → outcome ≡ Err (why, new.rest.now)

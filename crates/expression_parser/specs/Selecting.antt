@@ -2,6 +2,7 @@
 -- the selectors before it.
 -- This doesn't say how selectors are read: see Expressions in reading.
 use Rattle.std.specs.Prelude.{◌≡◌, Bool, true, false, List, [], ◌∷◌, ◌++◌, Option, Some, None, Result, Ok, Err}
+use Rattle.memory.specs.Refused.{the_refusal}
 use Rattle.place.specs.declared.Place.{Place}
 use Rattle.syntax_tree.specs.declared.Expr.{Expr}
 use Rattle.syntax_tree.specs.declared.Selector.{Selector}
@@ -35,7 +36,7 @@ Selects within outcome (Ok (Some (Field name))) new before after =
 Selects within outcome (Ok (Some (Index place joined))) new before after =
     (index : Expr) × (after ≡ before ++ index ∷ [])
     × (outcome ≡ Ok (more true (index_outline within joined place (expr_outline index)), new.rest.now))
-Selects within outcome (Err why) new before after = (¬ (why ≡ Memory)) → outcome ≡ Err (why, new.rest.now)
+Selects within outcome (Err why) new before after = (¬ (why ≡ Memory the_refusal)) → outcome ≡ Err (why, new.rest.now)
 
 -- an index is made behind the token that begins it
 abbrev pub SelectsIndex : Outcome Outline → Place → Bool → Result (Option Selector) Refusal → Cursor
@@ -43,4 +44,4 @@ abbrev pub SelectsIndex : Outcome Outline → Place → Bool → Result (Option 
 SelectsIndex outcome place joined (Ok found) new before after =
     (found ≡ Some (Index place joined)) × (index : Expr) × (after ≡ before ++ index ∷ [])
     × (outcome ≡ Ok (expr_outline index, new.rest.now))
-SelectsIndex outcome place joined (Err why) new before after = (¬ (why ≡ Memory)) → outcome ≡ Err (why, new.rest.now)
+SelectsIndex outcome place joined (Err why) new before after = (¬ (why ≡ Memory the_refusal)) → outcome ≡ Err (why, new.rest.now)

@@ -3,6 +3,7 @@
 use Rattle.std.specs.Prelude.{◌≡◌, ◌⊎◌, ℕ, List, [], ◌∷◌, ◌++◌, ◌&&◌, ◌||◌, flat_map, length, map, Result, Ok, Err}
 use Rattle.std.specs.Prelude.{Bool, true, false, Option, Some, None, Vec, is_some}
 use Rattle.std.specs.declared.alloc.Global.{Global}
+use Rattle.memory.specs.Refused.{the_refusal}
 use Rattle.place.specs.declared.Place.{Place}
 use Rattle.syntax_tree.specs.declared.Actual.{Actual}
 use Rattle.syntax_tree.specs.declared.Expr.{Expr as SyntaxExpr}
@@ -137,7 +138,7 @@ pub record IsChain (left : TypedExpr) (rest : TypedLinks) (made : TypedExpr) : T
 abbrev pub MakesChain : Place → TypedExpr → Result TypedLinks TypeFault → Result TypedExpr TypeFault → Type 0
 MakesChain place left (Ok rest) (Ok made) = IsChain left rest made
 MakesChain place left (Ok rest) (Err why) =
-    (why ≡ Memory) ⊎ ((is_scalar_value (value_of left.value) ≡ false) × (why ≡ Mismatch place))
+    (why ≡ Memory the_refusal) ⊎ ((is_scalar_value (value_of left.value) ≡ false) × (why ≡ Mismatch place))
 MakesChain place left (Err why) result = result ≡ Err why
 
 -- how two strings look that are compared, behind the right one
@@ -185,7 +186,7 @@ IsRightOf left (Err why) = Unit {0}
 -- the relation of a left operand and a right one, unless that is refused
 abbrev pub MakesRelation : TypedExpr → Result RightOperand TypeFault → Result TypedExpr TypeFault → Type 0
 MakesRelation left (Ok right) (Ok made) = IsRelationOf right.number right.operation left right.operand made
-MakesRelation left (Ok right) (Err why) = why ≡ Memory
+MakesRelation left (Ok right) (Err why) = why ≡ Memory the_refusal
 MakesRelation left (Err why) result = result ≡ Err why
 
 -- ---- set constructors

@@ -1,4 +1,5 @@
 ghost use Rattle.std.specs.Prelude.{◌≡◌, MatchResult, map, false, true};
+ghost use Rattle.memory.specs.Refused.{the_refusal};
 ghost use Rattle.typed_tree.specs.declared.fault.TypeFault.TheVariants.{Memory};
 ghost use Rattle.typed_tree.specs.Kinds.{held_by, is_held, is_ordinal_expr, links_held};
 ghost use Rattle.typed_tree.specs.Look.{look_expr};
@@ -28,7 +29,7 @@ pub(crate) fn monadic(
     type_id: TypeId,
 ) -> Result<TypedExpr, TypeFault>
     requires held { is_ordinal_expr operand ≡ true }
-    ensures { MatchResult result (IsMonadicOf begun operation operand type_id) (λ why. why ≡ Memory) }
+    ensures { MatchResult result (IsMonadicOf begun operation operand type_id) (λ why. why ≡ Memory the_refusal) }
 {
     let value = Expr::Monadic {
         number: begun.number,
@@ -86,7 +87,7 @@ fn chained(
     requires scalar { is_scalar_value rest.typed.value ≡ true }
     requires held { is_held (scalar_of rest.typed.value)
         (links_held (held_by first) (map held_behind rest.links.items)) ≡ true }
-    ensures { MatchResult result (IsChainOf first site rest) (λ why. why ≡ Memory) }
+    ensures { MatchResult result (IsChainOf first site rest) (λ why. why ≡ Memory the_refusal) }
 {
     let TypedLinks { links, typed } = rest;
     let value = Expr::Chain {
@@ -130,7 +131,7 @@ fn linked(
 ) -> Result<TypedExpr, TypeFault>
     requires related { relates operation (value_of left.value) (value_of right.value) ≡ true }
     requires scalar { is_scalar_value (value_of left.value) ≡ true }
-    ensures { MatchResult result (IsRelationOf number operation left right) (λ why. why ≡ Memory) }
+    ensures { MatchResult result (IsRelationOf number operation left right) (λ why. why ≡ Memory the_refusal) }
 {
     let site = left.site;
     let link = Link {

@@ -14,6 +14,7 @@ use report_text::messages::put;
 use stack_machine::bytes::Counted;
 use stack_machine::machine::Machine;
 use stack_machine::stop::Stop;
+use std::alloc::AllocError;
 use std::io::ErrorKind;
 use std::{env, fs};
 
@@ -25,7 +26,7 @@ pub fn words(rt: &HostRuntime, name: CommandName) -> Result<Vec<String>, WordsFa
     match env::args(rt) {
         Ok(given) => Ok(given.collect::<Vec<String>>(rt.alloc())?),
         Err(error) => match error.kind() {
-            ErrorKind::OutOfMemory => Err(WordsFault::Memory),
+            ErrorKind::OutOfMemory => Err(AllocError.into()),
             _ => Err(WordsFault::Words(not_utf8(rt.alloc(), name)?)),
         },
     }

@@ -8,7 +8,7 @@ use Rattle.lexer.specs.declared.fault.LexFault.TheVariants.{LargeNumber, Touchin
 
 -- the number of a fault behind the letter L, and 0 for want of memory
 abbrev pub number_of : LexFault → ℕ
-number_of Memory = 0
+number_of (Memory _) = 0
 number_of (UnknownByte p) = 1
 number_of (OpenComment p) = 2
 number_of (OpenString p) = 3
@@ -20,7 +20,7 @@ number_of (StringByte p) = 8
 
 -- where a fault stands in the text
 abbrev pub place_of_fault : LexFault → Option Place
-place_of_fault Memory = None
+place_of_fault (Memory _) = None
 place_of_fault (UnknownByte p) = Some p
 place_of_fault (OpenComment p) = Some p
 place_of_fault (OpenString p) = Some p

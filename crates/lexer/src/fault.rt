@@ -1,6 +1,8 @@
 ghost use Rattle.std.specs.Prelude.{◌≡◌};
+ghost use Rattle.memory.specs.Refused.{the_refusal};
 ghost use Rattle.lexer.specs.declared.fault.LexFault.TheVariants.{Memory};
 
+use memory::Refused;
 use place::Place;
 use std::alloc::{AllocError, AllocFailed};
 use thiserror::Error;
@@ -9,7 +11,7 @@ use thiserror::Error;
 #[derive(Clone, Copy, Debug, Error)]
 pub enum LexFault {
     #[error("no memory")]
-    Memory,
+    Memory(Refused),
     /// L1, at a byte that begins no token.
     #[error("{0}: a byte that begins no token")]
     UnknownByte(Place),
@@ -44,7 +46,7 @@ impl LexFault {
         ensures { result ≡ number_of self.now }
     {
         match self {
-            LexFault::Memory => 0,
+            LexFault::Memory(_) => 0,
             LexFault::UnknownByte(_) => 1,
             LexFault::OpenComment(_) => 2,
             LexFault::OpenString(_) => 3,
@@ -61,7 +63,7 @@ impl LexFault {
         ensures { result ≡ place_of_fault self.now }
     {
         match self {
-            LexFault::Memory => None,
+            LexFault::Memory(_) => None,
             LexFault::UnknownByte(place)
             | LexFault::OpenComment(place)
             | LexFault::OpenString(place)
@@ -75,17 +77,17 @@ impl LexFault {
 }
 
 impl From<AllocError> for LexFault {
-    ghost from_gives = { λ _ e. e ≡ Memory };
+    ghost from_gives = { λ _ e. e ≡ Memory the_refusal };
 
-    fn from(_error: AllocError) -> LexFault {
-        LexFault::Memory
+    fn from(error: AllocError) -> LexFault {
+        LexFault::Memory(error.into())
     }
 }
 
 impl<T: Drop> From<AllocFailed<T>> for LexFault {
-    ghost from_gives = { λ _ e. e ≡ Memory };
+    ghost from_gives = { λ _ e. e ≡ Memory the_refusal };
 
-    fn from(_error: AllocFailed<T>) -> LexFault {
-        LexFault::Memory
+    fn from(error: AllocFailed<T>) -> LexFault {
+        LexFault::Memory(error.into())
     }
 }

@@ -2,6 +2,7 @@ ghost use Rattle.std.specs.Prelude.{◌≡◌, ◌+◌, ◌^◌, ◌<◌, ◌≤
 ghost use Rattle.lexer.specs.Piece.{offset_of};
 ghost use Rattle.place.specs.Place.{start, place_after, ArePlacesInOrder};
 ghost use Rattle.lexer.specs.Tokens.{Lexeme, lexeme_of, fault_of, IsTokenList, IsFirstFault};
+ghost use Rattle.memory.specs.Refused.{the_refusal};
 ghost use Rattle.lexer.specs.declared.fault.LexFault.{LexFault};
 
 use crate::fault::LexFault;
@@ -21,7 +22,7 @@ pub const MAX_TEXT: usize = 1048576;
 pub fn tokens<'a>(alloc: Global, text: &'a [u8]) -> Result<Vec<Token<'a>>, LexFault>
     ensures list { IfOk result (λ found. IsTokenList text.now (map lexeme_of found.items)) }
     ensures in_order { IfOk result (λ found. ArePlacesInOrder (map (λ token. token.place) found.items)) }
-    ensures fault { IfErr result (λ found. found ≢ LexFault.Memory → IsFirstFault text.now found) }
+    ensures fault { IfErr result (λ found. found ≢ LexFault.Memory the_refusal → IsFirstFault text.now found) }
     ensures one_list { (a b : List Lexeme)
         → IsTokenList text.now a → IsTokenList text.now b → a ≡ b }
     ensures one_fault { (a b : LexFault)

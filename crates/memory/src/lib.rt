@@ -21,3 +21,9 @@ impl<T: Drop> From<AllocFailed<T>> for Refused {
         Refused { by: failed.into() }
     }
 }
+
+impl From<Refused> for AllocError {
+    fn from(refused: Refused) -> AllocError {
+        refused.by
+    }
+}

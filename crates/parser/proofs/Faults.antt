@@ -1,6 +1,7 @@
 -- What is answered, by what the rule of a program makes of the tokens.
 use Rattle.std.proofs.Common.{◌≡◌, ℕ, ◌-◌, ◌≤◌, ◌<◌, List, [], length, Option, None, Ok, Err, refl, sym, ap, ◌∙◌}
 use Rattle.std.proofs.Common.{arith}
+use Rattle.memory.specs.Refused.{the_refusal}
 use Rattle.place.specs.declared.Place.{Place}
 use Rattle.lexer.specs.declared.token.Token.{Token}
 use Rattle.syntax_tree.specs.declared.Program.{Program}
@@ -55,27 +56,27 @@ no_tree_at_all tokens left e = λ tree well spelled.
 
 module _ (tokens left : List Token) (why : Refusal) where
   abbrev pub Stops : Type 0
-  Stops = (¬ (why ≡ Memory)) → program most tokens ≡ Err (why, left)
+  Stops = (¬ (why ≡ Memory the_refusal)) → program most tokens ≡ Err (why, left)
 
 pub fault_is : (tokens left : List Token) (why : Refusal) → first_left_out tokens ≡ None → Stops tokens left why
     → IsFaultOf (fault_of tokens (length left) why) tokens
-fault_is tokens left Memory none h = tt
+fault_is tokens left (Memory _) none h = tt
 fault_is tokens left NoProgram none h = (none, no_tree_at_all tokens left (h (λ e. absurd cc)), (length tokens - length left, refl))
 fault_is tokens left (TooDeep at) none h = (none, no_tree tokens (TooDeep at, left) (h (λ e. absurd cc)))
 
 pub fault_read : (tokens left : List Token) (why : Refusal) → Stops tokens left why → IsReadAs (Err (fault_of tokens (length left) why)) tokens
-fault_read tokens left Memory h = tt
+fault_read tokens left (Memory _) h = tt
 fault_read tokens left NoProgram h = (left, h (λ e. absurd cc), refl)
 fault_read tokens left (TooDeep at) h = (at, left, h (λ e. absurd cc), refl)
 
 pub fault_deep : (tokens left : List Token) (why : Refusal) → Stops tokens left why → IsDeep most tokens (fault_of tokens (length left) why)
-fault_deep tokens left Memory h = λ place is. absurd cc
+fault_deep tokens left (Memory _) h = λ place is. absurd cc
 fault_deep tokens left NoProgram h = λ place is. absurd cc
 fault_deep tokens left (TooDeep at) h = λ place is.
     let same : place_or_end tokens at ≡ place = cc in (at, sym same, (program_deep most).deep tokens at left (h (λ e. absurd cc)))
 
 -- it is that of a rule
 pub of_rules : (tokens : List Token) (left : ℕ) (why : Refusal) → IsOfRules (fault_of tokens left why)
-of_rules tokens left Memory = tt
+of_rules tokens left (Memory _) = tt
 of_rules tokens left NoProgram = tt
 of_rules tokens left (TooDeep at) = tt

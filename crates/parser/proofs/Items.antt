@@ -1,6 +1,7 @@
 -- Parts one behind another, as they are read.
 use Rattle.std.proofs.Common.{◌≡◌, ◌<◌, length, Result, Bool, true, false, if◌then◌else◌, List, [], ◌∷◌, ◌++◌, Option, Some, None, Ok, Err, map}
 use Rattle.std.proofs.Common.{refl, sym, ap, subst, append_assoc, append-nil, ◌∙◌}
+use Rattle.memory.specs.Refused.{the_refusal}
 use Rattle.place.specs.declared.Place.{Place}
 use Rattle.lexer.specs.declared.token.Kind.{Kind}
 use Rattle.lexer.specs.declared.token.Kind.TheVariants as kind
@@ -97,7 +98,7 @@ module _ {A : Type 0} (test : Option Kind → Bool) (part : Reading A) where
     made : Puts front read (Ok tt) after → WasPut look (part tokens) mid front after
     made put = was_put look (part tokens) read mid front after makes put
 
-    stopped : (why : Refusal) → Puts front read (Err why) after → (¬ (why ≡ Memory)) → part tokens ≡ Err (why, mid.rest.now)
+    stopped : (why : Refusal) → Puts front read (Err why) after → (¬ (why ≡ Memory the_refusal)) → part tokens ≡ Err (why, mid.rest.now)
     stopped why put m = not_put look (part tokens) read mid front after why makes put m
 
     pub items_fewer : TakesOne part → Puts front read (Ok tt) after → length mid.rest.now < length tokens
@@ -129,7 +130,7 @@ module _ {A : Type 0} (test : Option Kind → Bool) (part : Reading A) where
         ∙ ap (λ row. Ok (row, mid.rest.now)) (looks_so look front after p.made p.behind)
 
     pub some_stop : {whole : Outcome (List A)} → Parts whole (map look front) (some tokens) → (why : Refusal)
-        → Puts front read (Err why) after → (¬ (why ≡ Memory)) → whole ≡ Err (why, mid.rest.now)
+        → Puts front read (Err why) after → (¬ (why ≡ Memory the_refusal)) → whole ≡ Err (why, mid.rest.now)
     some_stop {whole} so_far why put m =
         so_far.are ∙ ap (λ o. and_then o (before (map look front))) (some_stops tokens (why, mid.rest.now) (stopped why put m))
 
@@ -148,7 +149,7 @@ module _ {A : Type 0} (test : Option Kind → Bool) (part : Reading A) where
         })
 
     pub many_stop : {whole : Outcome (List A)} → Parts whole (map look front) (many test part tokens) → test (next_kind tokens) ≡ true → (why : Refusal)
-        → Puts front read (Err why) after → (¬ (why ≡ Memory)) → whole ≡ Err (why, mid.rest.now)
+        → Puts front read (Err why) after → (¬ (why ≡ Memory the_refusal)) → whole ≡ Err (why, mid.rest.now)
     many_stop {whole} so_far e why put m =
         so_far.are ∙ ap (λ o. and_then o (before (map look front))) (many_stops tokens (why, mid.rest.now) e (stopped why put m))
 

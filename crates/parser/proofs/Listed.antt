@@ -1,6 +1,7 @@
 -- Parts with a symbol between each two, as they are read, by what those look like that were read.
 use Rattle.std.proofs.Common.{◌≡◌, ◌<◌, length, Result, List, [], ◌∷◌, ◌++◌, Some, None, Ok, Err, map, sym, ap, subst, ◌∙◌}
 use Rattle.std.proofs.lemmas.List.{map-append}
+use Rattle.memory.specs.Refused.{the_refusal}
 use Rattle.place.specs.declared.Place.{Place}
 use Rattle.lexer.specs.declared.token.Symbol.{Symbol}
 use Rattle.lexer.specs.declared.token.Token.{Token}
@@ -54,5 +55,5 @@ module _ {T A : Type 0} (look : T → A) (s : Symbol) (part : Reading A) (tokens
 
   -- a part that stops
   pub listed_stops : {whole : Outcome (List A)} → Parts whole (map look front) (separated s part tokens) → (why : Refusal) → Puts front read (Err why) after
-      → (¬ (why ≡ Memory)) → whole ≡ Err (why, mid.rest.now)
+      → (¬ (why ≡ Memory the_refusal)) → whole ≡ Err (why, mid.rest.now)
   listed_stops {whole} so_far why put m = parts_stop s part so_far (why, mid.rest.now) (not_put look (part tokens) read mid front after why makes put m)

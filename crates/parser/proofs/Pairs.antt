@@ -1,6 +1,7 @@
 -- Parts up to an `end` that are kept as two rows: what the heads of the parts are, and what stands behind each.
 use Rattle.std.proofs.Common.{◌≡◌, ◌<◌, Bool, List, [], ◌∷◌, ◌++◌, length, Some, None, Result, Ok, Err, refl, sym, ap, subst, ◌∙◌}
 use Rattle.std.proofs.Common.{arith, length-append}
+use Rattle.memory.specs.Refused.{the_refusal}
 use Rattle.lexer.specs.declared.token.Token.{Token}
 use Rattle.reading.specs.declared.refusal.Refusal.{Refusal}
 use Rattle.reading.specs.declared.refusal.Refusal.TheVariants.{Memory}
@@ -42,7 +43,7 @@ module _ {X Y : Type 0} (head : X → List Outline) (look : Y → Outline) (join
       (so_far : Paired rows whole xs ys (parts_to_end pair tokens)) (read : Result X Refusal) (mid : Cursor) (xs' : List X)
       (makes : Makes head (heads tokens) read mid) where
     -- a head that stops
-    pub head_stops : (why : Refusal) → Puts xs read (Err why) xs' → (¬ (why ≡ Memory)) → whole ≡ Err (why, mid.rest.now)
+    pub head_stops : (why : Refusal) → Puts xs read (Err why) xs' → (¬ (why ≡ Memory the_refusal)) → whole ≡ Err (why, mid.rest.now)
     head_stops why put m =
         ended_stops pair tokens so_far.turns (why, mid.rest.now)
         (ap (λ o. and_then o (λ h. inner >>= (λ i. pure (join h i)))) (not_put head (heads tokens) read mid xs xs' why makes put m))
@@ -53,7 +54,7 @@ module _ {X Y : Type 0} (head : X → List Outline) (look : Y → Outline) (join
       first = was_put head (heads tokens) read mid xs xs' makes put
 
       -- what stands behind it stops
-      pub inner_stops : (why : Refusal) → Puts ys found (Err why) ys' → (¬ (why ≡ Memory)) → whole ≡ Err (why, last.rest.now)
+      pub inner_stops : (why : Refusal) → Puts ys found (Err why) ys' → (¬ (why ≡ Memory the_refusal)) → whole ≡ Err (why, last.rest.now)
       inner_stops why put' m =
           ended_stops pair tokens so_far.turns (why, last.rest.now)
           (ap (λ o. and_then o (λ h. inner >>= (λ i. pure (join h i)))) first.read

@@ -40,7 +40,7 @@ StandsAt tokens place = (number : ℕ) × (place ≡ place_at tokens number)
 -- The fault is one of these tokens: a form left out before all others, at its first token. Nesting is told only where
 -- it keeps the tokens from having a tree that is allowed, and P1 never for nesting alone, and at a token or the end.
 abbrev pub IsFaultOf : ParseFault → List Token → Type 0
-IsFaultOf Memory tokens = Unit {0}
+IsFaultOf (Memory _) tokens = Unit {0}
 IsFaultOf (LeftOut place) tokens = first_left_out tokens ≡ Some place
 IsFaultOf (NoProgram place) tokens = (first_left_out tokens ≡ None) × HasNoTreeAtAll tokens × StandsAt tokens place
 IsFaultOf (TooDeep place) tokens = (first_left_out tokens ≡ None) × HasNoTree tokens
@@ -66,7 +66,7 @@ Answers answer tokens = MatchResult answer (λ tree. IsTreeOf tree tokens) (λ f
 -- of the tokens that it leaves, with which no rule goes on, and P2 where the nesting passes the limit.
 abbrev pub IsReadAs : Result Program ParseFault → List Token → Type 0
 IsReadAs (Ok tree) tokens = program most tokens ≡ Ok (program_outline tree, [])
-IsReadAs (Err Memory) tokens = Unit {0}
+IsReadAs (Err (Memory _)) tokens = Unit {0}
 IsReadAs (Err (LeftOut place)) tokens = Unit {0}
 IsReadAs (Err (NoProgram place)) tokens =
     (left : List Token) × (program most tokens ≡ Err (refusal.NoProgram, left))

@@ -6,6 +6,7 @@ use Rattle.std.specs.List.{flat_map, list_all}
 use Rattle.std.specs.Option.{is_none}
 use Rattle.std.specs.Result.{IsErrAnd}
 use Rattle.std.proofs.lemmas.Bool.{and_from, and_parts}
+use Rattle.memory.specs.Refused.{the_refusal}
 use Rattle.pcode_assembler.specs.declared.above.Above.{Above}
 use Rattle.pcode_assembler.specs.declared.code.Code.{Code}
 use Rattle.pcode_assembler.specs.declared.content.Content.{Content}
@@ -97,8 +98,8 @@ no_fault_below text below seen code says body_is seen_is =
     ap (λ s. fault_from s start 2 below) (seen_is ∙ ap seen_in lines) ∙ ap (fault_from (seen_in (lines_of says.said)) start 2) rest
     ∙ faultless (seen_in (lines_of says.said)) start 2 says.said says.fit says.right
 
-pub memory_only : (f : AsmFault) (o : Option AsmFault) → o ≡ None → (f ≢ fault.Memory → o ≡ Some f) → f ≡ fault.Memory
-memory_only fault.Memory o none told = refl
+pub memory_only : (f : AsmFault) (o : Option AsmFault) → o ≡ None → (f ≢ fault.Memory the_refusal → o ≡ Some f) → f ≡ fault.Memory the_refusal
+memory_only (fault.Memory _) o none told = refl
 memory_only (fault.Refused broken line) o none told =
     absurd (let told_it : o ≡ Some (fault.Refused broken line) = told (λ same. absurd cc) in cc)
 
@@ -133,7 +134,7 @@ one_code text code answered says other =
     }
 
 pub error_only : (code : Code) (answer : Result Code AsmFault) (error : AsmFault) → IsErrAnd answer (λ given. given ≡ error)
-    → error ≡ fault.Memory → IsReadAs code answer
+    → error ≡ fault.Memory the_refusal → IsReadAs code answer
 error_only code (Ok answered) error is only = absurd is
 error_only code (Err given) error is only = is ∙ only
 

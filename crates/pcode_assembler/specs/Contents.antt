@@ -3,6 +3,7 @@ use Rattle.std.specs.Prelude.{◌≡◌, ℕ, ◌+◌, ◌≤◌, min, Bool, tru
 use Rattle.std.specs.Prelude.{◌∷◌, ◌++◌, length, map, Option, Some, None, Result, Ok, Err, codes}
 use Rattle.std.specs.List.{flat_map, list_all, list_any}
 use Rattle.std.specs.Option.{is_none, option_map_or}
+use Rattle.memory.specs.Refused.{the_refusal}
 use Rattle.pcode_assembler.specs.declared.code.Code.{Code}
 use Rattle.pcode_assembler.specs.declared.code.Site.{Site}
 use Rattle.pcode_assembler.specs.declared.code.Point.{Point}
@@ -99,7 +100,7 @@ pub record IsSameCode (a b : Code) : Type 0 where
 
 abbrev pub IsReadAs : Code → Result Code AsmFault → Type 0
 IsReadAs code (Ok answered) = IsSameCode code answered
-IsReadAs code (Err fault) = fault ≡ Memory
+IsReadAs code (Err fault) = fault ≡ Memory the_refusal
 
 -- ---- the text of a code
 

@@ -5,6 +5,7 @@ use Rattle.std.specs.Prelude.{map}
 use Rattle.std.specs.Prelude.{Option, Some, None, Result, Ok, Err}
 use Rattle.std.specs.List.{list_all}
 use Rattle.std.specs.HashMap.{get}
+use Rattle.memory.specs.Refused.{the_refusal}
 use Rattle.pcode_assembler.specs.declared.above.Above.{Above}
 use Rattle.pcode_assembler.specs.declared.code.Code.{Code}
 use Rattle.pcode_assembler.specs.declared.content.Content.{Content}
@@ -73,7 +74,7 @@ pub record AreRead (seen : Seen) (lines : List (List ℕ)) (code : Code) : Type 
 -- what is read of lines below the first, or the first fault, or want of memory
 abbrev pub IsRead : Seen → List (List ℕ) → Result Code AsmFault → Type 0
 IsRead seen lines (Ok code) = AreRead seen lines code × (fault_from seen start 2 lines ≡ None)
-IsRead seen lines (Err fault) = fault ≢ Memory → fault_from seen start 2 lines ≡ Some fault
+IsRead seen lines (Err fault) = fault ≢ Memory the_refusal → fault_from seen start 2 lines ≡ Some fault
 
 -- the lines below the first, which is the heading, or the fault of a first line that isn't
 abbrev pub IsBelow : List (List ℕ) → Result (List (List ℕ)) AsmFault → Type 0

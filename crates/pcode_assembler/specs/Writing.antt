@@ -1,6 +1,6 @@
 -- How a writer of code comes from line to line: words of private functions alone. It does not say how a code is
 -- spelled.
-use Rattle.std.specs.Prelude.{◌≡◌, ℕ, ◌<◌, Bool, true, false, ◌==◌, if◌then◌else◌, List, [], ◌∷◌, ◌++◌, length, decimal}
+use Rattle.std.specs.Prelude.{◌≡◌, ℕ, ◌<◌, Bool, true, None, ◌==◌, if◌then◌else◌, List, [], ◌∷◌, ◌++◌, length, decimal}
 use Rattle.std.specs.Prelude.{slice_index_or}
 use Rattle.std.specs.List.{flat_map, list_all, list_any}
 use Rattle.pcode_assembler.specs.declared.content.Content.{Content}
@@ -14,7 +14,7 @@ use Rattle.pcode_assembler.specs.Lines.{has_numbers, line_of, words_behind}
 -- bytes are appended to a text, unless memory ran out
 abbrev pub Appends : List ℕ → (old new : Writer) → Type 0
 Appends bytes old new =
-    new.is_short ≡ false → (old.is_short ≡ false) × (new.text.items ≡ old.text.items ++ bytes)
+    new.refused ≡ None → (old.refused ≡ None) × (new.text.items ≡ old.text.items ++ bytes)
 
 -- lines with their ends are
 abbrev pub lines_text : List Content → List ℕ

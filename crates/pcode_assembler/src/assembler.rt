@@ -1,6 +1,7 @@
 ghost use Rattle.std.specs.Prelude.{◌≡◌, ◌≢◌, ◌==◌, [], IfOk, OnOk, Some};
 ghost use Rattle.std.specs.Result.{result_err, result_map_both};
 ghost use Rattle.pcode_assembler.specs.declared.code.Code.{Code as SaidCode};
+ghost use Rattle.memory.specs.Refused.{the_refusal};
 ghost use Rattle.pcode_assembler.specs.declared.fault.AsmFault.TheVariants.{Memory};
 ghost use Rattle.pcode_assembler.specs.Contents.{IsReadAs, Says};
 ghost use Rattle.pcode_assembler.specs.Reading.{Adds, Holds, IsBelow, IsRead, seen_by};
@@ -28,7 +29,7 @@ pub fn assemble(alloc: Global, text: &[u8]) -> Result<Code, AsmFault>
     ensures exact { IfOk result (Says text.now) }
     // A text that says a code is read as that, unless memory runs out.
     ensures spelled { (code : SaidCode) → Says text.now code → IsReadAs code result }
-    ensures fault { result_err result ≢ Some Memory → result_err result ≡ first_fault text.now }
+    ensures fault { result_err result ≢ Some (Memory the_refusal) → result_err result ≡ first_fault text.now }
 {
     check_end(text)?;
     let labels = Labels::of(alloc, text)?;

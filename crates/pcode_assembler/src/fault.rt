@@ -1,6 +1,8 @@
 ghost use Rattle.std.specs.Prelude.{◌≡◌};
+ghost use Rattle.memory.specs.Refused.{the_refusal};
 ghost use Rattle.pcode_assembler.specs.declared.fault.AsmFault.TheVariants.{Memory};
 
+use memory::Refused;
 use std::alloc::{AllocError, AllocFailed};
 use thiserror::Error;
 
@@ -31,7 +33,7 @@ pub enum AsmRule {
 #[derive(Clone, Copy, Debug, Error)]
 pub enum AsmFault {
     #[error("no memory")]
-    Memory,
+    Memory(Refused),
     /// The first faulty line.
     #[error("code:{line}: refused {rule}")]
     Refused { rule: AsmRule, line: u64 },
@@ -63,17 +65,17 @@ impl AsmRule {
 }
 
 impl From<AllocError> for AsmFault {
-    ghost from_gives = { λ _ e. e ≡ Memory };
+    ghost from_gives = { λ _ e. e ≡ Memory the_refusal };
 
-    fn from(_error: AllocError) -> AsmFault {
-        AsmFault::Memory
+    fn from(error: AllocError) -> AsmFault {
+        AsmFault::Memory(error.into())
     }
 }
 
 impl<T: Drop> From<AllocFailed<T>> for AsmFault {
-    ghost from_gives = { λ _ e. e ≡ Memory };
+    ghost from_gives = { λ _ e. e ≡ Memory the_refusal };
 
-    fn from(_error: AllocFailed<T>) -> AsmFault {
-        AsmFault::Memory
+    fn from(error: AllocFailed<T>) -> AsmFault {
+        AsmFault::Memory(error.into())
     }
 }

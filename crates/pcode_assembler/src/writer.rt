@@ -29,17 +29,17 @@ impl Code {
         let targets = targets(alloc, &self.instructions)?;
         let mut writer = Writer {
             text: Vec::new(alloc),
-            is_short: false,
+            refused: None,
         };
         writer.append(b"pcode 1\n");
         writer.sites(&self.sites);
         writer.points(&self.points);
         writer.instructions(&targets, &self.instructions);
         writer.append(b"end\n");
-        if writer.is_short {
-            return Err(AllocError);
+        match writer.refused {
+            Some(error) => Err(error),
+            None => Ok(writer.text),
         }
-        Ok(writer.text)
     }
 }
 
@@ -70,15 +70,15 @@ fn mark(places: &mut [bool], place: usize)
 #[derive(Drop)]
 struct Writer {
     text: Vec<u8>,
-    is_short: bool,
+    refused: Option<AllocError>,
 }
 
 impl Writer {
     fn append(&mut self, bytes: &[u8])
         ensures { Appends bytes.now self.old self.new }
     {
-        if self.text.extend_from_slice(bytes).is_err() {
-            self.is_short = true;
+        if let Err(error) = self.text.extend_from_slice(bytes) {
+            self.refused = Some(error);
         }
     }
 

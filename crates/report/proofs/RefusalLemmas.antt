@@ -1,6 +1,7 @@
 -- The fault of a layer, as the whole compiler tells it, is a refusal of the source.
 use Rattle.std.proofs.Common.{◌≡◌, ◌≢◌, ⊎_elim, ℕ, List, [], Option, None, Some, Result, Err, map, true, false, refl, sym, subst, ap, ◌∙◌}
 use Rattle.std.specs.Prelude.{MatchResult}
+use Rattle.memory.specs.Refused.{the_refusal}
 use Rattle.lexer.specs.declared.token.Token.{Token}
 use Rattle.lexer.specs.declared.fault.LexFault.{LexFault}
 use Rattle.lexer.specs.declared.fault.LexFault.TheVariants as lex
@@ -48,30 +49,30 @@ untyped_by source answer y fault is same h =
     (λ text. subst (IsRefusal source text) (sym same) (h text))
 
 -- tokens are refused of a source for its first fault
-pub lexing-refusal : (source : List ℕ) (text : Option (List ℕ)) (fault : LexFault) → (fault ≢ lex.Memory → IsFirstFault source fault)
+pub lexing-refusal : (source : List ℕ) (text : Option (List ℕ)) (fault : LexFault) → (fault ≢ lex.Memory the_refusal → IsFirstFault source fault)
     → IsRefusal source text (lexer_fault fault)
-lexing-refusal source text lex.Memory h = tt
+lexing-refusal source text (lex.Memory _) h = tt
 lexing-refusal source text fault h = h (λ same. cc)
 
 -- syntax is refused of a source whose tokens have that fault
 pub parsing-refusal : (source : List ℕ) (text : Option (List ℕ)) (fault : ParseFault) (tokens : List Token)
     → IsTokenList source (map lexeme_of tokens) → IsFaultOf fault tokens
     → IsReadAs (Err fault) tokens → IsRefusal source text (parser_fault fault)
-parsing-refusal source text parse.Memory tokens list h read = tt
+parsing-refusal source text (parse.Memory _) tokens list h read = tt
 parsing-refusal source text fault tokens list h read = (tokens, list, h, read)
 
 -- names and types are refused of a source that is written as a program, whose typing tells just that
 pub typing-refusal : (source : List ℕ) (text : Option (List ℕ)) (fault : TypeFault) (program : Program)
     → IsWrittenAs source program → IsFault (typing program) fault
     → IsRefusal source text (typing_fault fault)
-typing-refusal source text untyped.Memory program written h = tt
+typing-refusal source text (untyped.Memory _) program written h = tt
 typing-refusal source text fault program written h = (program, written, ⊎_elim (λ e. cc) (λ told. told) h)
 
 -- a certificate is refused for what it names, or for the first rule that it breaks
 pub checking-refusal : (source : List ℕ) (text : Option (List ℕ)) (tree : Tree) (certificate : CertificateRead) (fault : CheckFault)
     → AreOf source text tree certificate
     → IsRefusedFor tree certificate fault → IsRefusal source text (checker_fault fault)
-checking-refusal source text tree certificate check.Memory are h = tt
+checking-refusal source text tree certificate (check.Memory _) are h = tt
 checking-refusal source text tree certificate check.Foreign are h = (tree, certificate, are, h)
 checking-refusal source text tree certificate (check.Broken rule place) are h = (tree, certificate, are, h)
 
@@ -80,14 +81,14 @@ pub generation-refusal : (source : List ℕ) (text : Option (List ℕ)) (tree : 
     → AreOf source text tree certificate
     → (program_walk tree certificate).broken ≡ [] → (fault ≡ generate.TooLarge → has_no_code tree ≡ true)
     → IsRefusal source text (generator_fault fault)
-generation-refusal source text tree certificate generate.Memory are unbroken h = tt
+generation-refusal source text tree certificate (generate.Memory _) are unbroken h = tt
 generation-refusal source text tree certificate generate.TooLarge are unbroken h = (tree, certificate, are, unbroken, h refl)
 
 -- a certificate is refused for its first faulty line
 pub certificate-refusal : (source text : List ℕ) (tree : Tree) (fault : ReadFault) → IsTypedTreeOf tree source
-    → (fault ≢ read.Memory → first_fault text ≡ Some fault)
+    → (fault ≢ read.Memory the_refusal → first_fault text ≡ Some fault)
     → IsRefusal source (Some text) (certificate_fault fault)
-certificate-refusal source text tree read.Memory typed h = tt
+certificate-refusal source text tree (read.Memory _) typed h = tt
 certificate-refusal source text tree (read.FirstLine line) typed h = (tree, typed, h (λ same. cc))
 certificate-refusal source text tree (read.NotInGrammar line) typed h = (tree, typed, h (λ same. cc))
 certificate-refusal source text tree (read.OutOfOrder line) typed h = (tree, typed, h (λ same. cc))
@@ -96,8 +97,8 @@ certificate-refusal source text tree (read.Unended line) typed h = (tree, typed,
 
 -- an accepted certificate isn't refused
 never_refused : (tree : Tree) (certificate : CertificateRead) (fault : CheckFault) → IsAccepted tree certificate
-    → IsRefusedFor tree certificate fault → fault ≡ check.Memory
-never_refused tree certificate check.Memory accepted h = refl
+    → IsRefusedFor tree certificate fault → fault ≡ check.Memory the_refusal
+never_refused tree certificate (check.Memory _) accepted h = refl
 never_refused tree certificate check.Foreign accepted h = absurd (let both : true ≡ false = sym accepted.0 ∙ h in cc)
 never_refused tree certificate (check.Broken rule place) accepted h =
     absurd (let none : None ≡ Some (record { rule = rule; place = place }) = sym (ap first_breach accepted.1) ∙ h.1 in cc)
@@ -105,16 +106,16 @@ never_refused tree certificate (check.Broken rule place) accepted h =
 -- without a certificate's text a source isn't refused for a certificate
 pub not_of_certificate : (source : List ℕ) (text : Option (List ℕ)) (fault : Fault) → text ≡ None → IsRefusal source text fault
     → is_of_certificate fault ≡ false
-not_of_certificate source None Memory is h = refl
+not_of_certificate source None (Memory _) is h = refl
 not_of_certificate source None (Lex fault) is h = refl
 not_of_certificate source None (Parse fault) is h = refl
 not_of_certificate source None (Typing fault) is h = refl
 not_of_certificate source None (Certificate fault) is h = absurd h.2
-not_of_certificate source None (Check check.Memory) is h = absurd h
+not_of_certificate source None (Check (check.Memory _)) is h = absurd h
 not_of_certificate source None (Check check.Foreign) is h =
-    absurd (let never : check.Foreign ≡ check.Memory = never_refused h.0 h.1 check.Foreign h.2.serves.0 h.3 in cc)
+    absurd (let never : check.Foreign ≡ check.Memory the_refusal = never_refused h.0 h.1 check.Foreign h.2.serves.0 h.3 in cc)
 not_of_certificate source None (Check (check.Broken rule place)) is h =
-    absurd (let never : check.Broken rule place ≡ check.Memory = never_refused h.0 h.1 (check.Broken rule place) h.2.serves.0 h.3 in cc)
+    absurd (let never : check.Broken rule place ≡ check.Memory the_refusal = never_refused h.0 h.1 (check.Broken rule place) h.2.serves.0 h.3 in cc)
 not_of_certificate source None (Generate fault) is h = refl
 not_of_certificate source None (Code fault) is h = absurd h
 not_of_certificate source (Some text) fault is h = absurd cc

@@ -2,6 +2,7 @@
 -- It does not say what files and streams are, nor what one that fails has taken.
 use Rattle.std.specs.Prelude.{◌≡◌, ℕ, ◌-◌, ◌^◌, ◌==◌, if◌then◌else◌, Bool, true, false, List, [], ◌∷◌, ◌++◌, codes}
 use Rattle.std.specs.Prelude.{Option, Some, None, Result, Ok, Err}
+use Rattle.memory.specs.Refused.{the_refusal}
 use denote.Ref.{Bor}
 use Rattle.clap.specs.Words.{kind_of}
 use Rattle.clap.specs.declared.error.kind.ErrorKind.{ErrorKind}
@@ -57,7 +58,7 @@ words_status _ = 3
 
 -- words that aren't taken get an answer, or it is told that there is no memory for them
 abbrev pub untaken : WordsFault → Course
-untaken words.Memory = ends_with (refusal_line (refusal_of Memory)) (refusal_status (refusal_of Memory))
+untaken (words.Memory _) = ends_with (refusal_line (refusal_of (Memory the_refusal))) (refusal_status (refusal_of (Memory the_refusal)))
 untaken (words.Words told) =
     λ acts answer. (acts ≡ Answered (kind_of told) ∷ []) × (answer ≡ words_status (kind_of told))
 

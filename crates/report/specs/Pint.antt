@@ -17,7 +17,7 @@ use Rattle.report.specs.Courses.{Course, ends_with, reads, runs, untaken}
 
 -- why the text of a code is refused: its first faulty line, or for want of memory
 abbrev pub IsCodeRefusal : List ℕ → Fault → Type 0
-IsCodeRefusal text Memory = Unit {0}
+IsCodeRefusal text (Memory _) = Unit {0}
 IsCodeRefusal text (Code fault) = first_fault text ≡ Some fault
 IsCodeRefusal text _ = ⊥
 

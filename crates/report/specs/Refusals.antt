@@ -54,20 +54,20 @@ is_of_certificate _ = false
 -- why a source with a certificate is refused: each layer is told only where those before it had no fault, and the want
 -- of memory of each is told alike
 abbrev pub IsRefusal : List ℕ → Option (List ℕ) → Fault → Type 0
-IsRefusal source text Memory = Unit {0}
+IsRefusal source text (Memory _) = Unit {0}
 IsRefusal source text (Lex fault) = IsFirstFault source fault
-IsRefusal source text (Parse parse.Memory) = ⊥
+IsRefusal source text (Parse (parse.Memory _)) = ⊥
 IsRefusal source text (Parse fault) =
     (tokens : List Token) × IsTokenList source (map lexeme_of tokens) × IsFaultOf fault tokens
     × IsReadAs (Err fault) tokens
-IsRefusal source text (Typing untyped.Memory) = ⊥
+IsRefusal source text (Typing (untyped.Memory _)) = ⊥
 IsRefusal source text (Typing fault) = (program : Program) × IsWrittenAs source program × (typing program ≡ Err fault)
 IsRefusal source text (Certificate fault) = (tree : Tree) × IsTypedTreeOf tree source × IsFaultIn text fault
-IsRefusal source text (Check check.Memory) = ⊥
+IsRefusal source text (Check (check.Memory _)) = ⊥
 IsRefusal source text (Check fault) =
     (tree : Tree) × (certificate : CertificateRead) × AreOf source text tree certificate
     × IsRefusedFor tree certificate fault
-IsRefusal source text (Generate generate.Memory) = ⊥
+IsRefusal source text (Generate (generate.Memory _)) = ⊥
 IsRefusal source text (Generate generate.TooLarge) =
     (tree : Tree) × (certificate : CertificateRead) × AreOf source text tree certificate
     × ((program_walk tree certificate).broken ≡ []) × (has_no_code tree ≡ true)

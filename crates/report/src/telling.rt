@@ -23,7 +23,7 @@ pub fn untaken<O: Outside>(alloc: Global, fault: WordsFault, outside: &mut O) ->
     ensures { Goes (O.acts outside.old) (O.acts outside.new) result (untaken fault) }
 {
     match fault {
-        WordsFault::Memory => refuse(alloc, &Fault::Memory, outside),
+        WordsFault::Memory(refused) => refuse(alloc, &Fault::Memory(refused), outside),
         WordsFault::Words(told) => { if outside.answer(told) { TROUBLE } else { 0 } }
     }
 }

@@ -1,12 +1,14 @@
 ghost use Rattle.std.specs.Prelude.{◌≡◌};
 ghost use Rattle.report_text.specs.Faults.{lexer_fault, parser_fault, typing_fault, certificate_fault, checker_fault};
 ghost use Rattle.report_text.specs.Faults.{assembler_fault, generator_fault};
+ghost use Rattle.memory.specs.Refused.{the_refusal};
 ghost use Rattle.report_text.specs.declared.fault.Fault.TheVariants.{Memory};
 
 use certificate::fault::ReadFault;
 use checker_expressions::fault::CheckFault;
 use code_generator::fault::GenFault;
 use lexer::fault::LexFault;
+use memory::Refused;
 use pcode_assembler::fault::AsmFault;
 use std::alloc::AllocError;
 use thiserror::Error;
@@ -17,7 +19,7 @@ use typed_tree::fault::TypeFault;
 #[derive(Clone, Copy, Debug, Error)]
 pub enum Fault {
     #[error("no memory")]
-    Memory,
+    Memory(Refused),
     #[error("{0}")]
     Lex(LexFault),
     #[error("{0}")]
@@ -35,10 +37,10 @@ pub enum Fault {
 }
 
 impl From<AllocError> for Fault {
-    ghost from_gives = { λ _ e. e ≡ Memory };
+    ghost from_gives = { λ _ e. e ≡ Memory the_refusal };
 
-    fn from(_error: AllocError) -> Fault {
-        Fault::Memory
+    fn from(error: AllocError) -> Fault {
+        Fault::Memory(error.into())
     }
 }
 
@@ -47,7 +49,7 @@ impl From<LexFault> for Fault {
 
     fn from(fault: LexFault) -> Fault {
         match fault {
-            LexFault::Memory => Fault::Memory,
+            LexFault::Memory(refused) => Fault::Memory(refused),
             _ => Fault::Lex(fault),
         }
     }
@@ -58,7 +60,7 @@ impl From<ParseFault> for Fault {
 
     fn from(fault: ParseFault) -> Fault {
         match fault {
-            ParseFault::Memory => Fault::Memory,
+            ParseFault::Memory(refused) => Fault::Memory(refused),
             _ => Fault::Parse(fault),
         }
     }
@@ -69,7 +71,7 @@ impl From<TypeFault> for Fault {
 
     fn from(fault: TypeFault) -> Fault {
         match fault {
-            TypeFault::Memory => Fault::Memory,
+            TypeFault::Memory(refused) => Fault::Memory(refused),
             _ => Fault::Typing(fault),
         }
     }
@@ -80,7 +82,7 @@ impl From<ReadFault> for Fault {
 
     fn from(fault: ReadFault) -> Fault {
         match fault {
-            ReadFault::Memory => Fault::Memory,
+            ReadFault::Memory(refused) => Fault::Memory(refused),
             _ => Fault::Certificate(fault),
         }
     }
@@ -91,7 +93,7 @@ impl From<CheckFault> for Fault {
 
     fn from(fault: CheckFault) -> Fault {
         match fault {
-            CheckFault::Memory => Fault::Memory,
+            CheckFault::Memory(refused) => Fault::Memory(refused),
             CheckFault::Foreign | CheckFault::Broken { .. } => Fault::Check(fault),
         }
     }
@@ -102,7 +104,7 @@ impl From<GenFault> for Fault {
 
     fn from(fault: GenFault) -> Fault {
         match fault {
-            GenFault::Memory => Fault::Memory,
+            GenFault::Memory(refused) => Fault::Memory(refused),
             GenFault::TooLarge => Fault::Generate(fault),
         }
     }
@@ -113,7 +115,7 @@ impl From<AsmFault> for Fault {
 
     fn from(fault: AsmFault) -> Fault {
         match fault {
-            AsmFault::Memory => Fault::Memory,
+            AsmFault::Memory(refused) => Fault::Memory(refused),
             AsmFault::Refused { .. } => Fault::Code(fault),
         }
     }

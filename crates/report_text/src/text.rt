@@ -123,7 +123,7 @@ pub fn refusal_told(fault: &Fault) -> Refusal
     ensures { result ≡ refusal_of fault.now }
 {
     match fault {
-        Fault::Memory => Refusal::Memory,
+        Fault::Memory(_) => Refusal::Memory,
         Fault::Lex(fault) => at_or_memory(fault.place(), b'L', fault.number()),
         Fault::Parse(fault) => at_or_memory(fault.place(), b'P', fault.number()),
         Fault::Typing(fault) => typing_refusal(*fault),
@@ -171,7 +171,7 @@ fn checker_refusal(fault: CheckFault) -> Refusal
     ensures { result ≡ checker_refusal fault }
 {
     match fault {
-        CheckFault::Memory => Refusal::Memory,
+        CheckFault::Memory(_) => Refusal::Memory,
         CheckFault::Foreign => Refusal::Claims(RuleCode {
             letter: b'C',
             number: 1,
@@ -190,7 +190,7 @@ fn generator_refusal(fault: GenFault) -> Refusal
     ensures { result ≡ generator_refusal fault }
 {
     match fault {
-        GenFault::Memory => Refusal::Memory,
+        GenFault::Memory(_) => Refusal::Memory,
         GenFault::TooLarge => Refusal::Whole(RuleCode {
             letter: b'G',
             number: 1,
@@ -202,7 +202,7 @@ fn assembler_refusal(fault: AsmFault) -> Refusal
     ensures { result ≡ assembler_refusal fault }
 {
     match fault {
-        AsmFault::Memory => Refusal::Memory,
+        AsmFault::Memory(_) => Refusal::Memory,
         AsmFault::Refused { rule, line } => Refusal::Code {
             line,
             code: RuleCode {

@@ -317,7 +317,7 @@ pub(crate) fn program(alloc: Global, numbers: &mut Numbers) -> Result<Vec<u8>, A
             None => text.put_byte(byte),
         }
     }
-    text.is_short |= rest.is_short;
+    text.refused = text.refused.or(rest.refused);
     text.finish()
 }
 

@@ -6,26 +6,26 @@ use std::alloc::{AllocError, Global};
 #[derive(Drop)]
 pub(crate) struct Text {
     pub(crate) bytes: Vec<u8>,
-    pub(crate) is_short: bool,
+    pub(crate) refused: Option<AllocError>,
 }
 
 impl Text {
     pub(crate) fn new(alloc: Global) -> Text {
         Text {
             bytes: Vec::new(alloc),
-            is_short: false,
+            refused: None,
         }
     }
 
     pub(crate) fn put(&mut self, piece: &str) {
-        if self.bytes.extend_from_slice(piece.as_bytes()).is_err() {
-            self.is_short = true;
+        if let Err(error) = self.bytes.extend_from_slice(piece.as_bytes()) {
+            self.refused = Some(error);
         }
     }
 
     pub(crate) fn put_byte(&mut self, byte: u8) {
-        if self.bytes.push(byte).is_err() {
-            self.is_short = true;
+        if let Err(error) = self.bytes.push(byte) {
+            self.refused = Some(error.into());
         }
     }
 
@@ -53,9 +53,9 @@ impl Text {
     }
 
     pub(crate) fn finish(self) -> Result<Vec<u8>, AllocError> {
-        if self.is_short {
-            return Err(AllocError);
+        match self.refused {
+            Some(error) => Err(error),
+            None => Ok(self.bytes),
         }
-        Ok(self.bytes)
     }
 }

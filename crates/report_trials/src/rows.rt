@@ -93,7 +93,7 @@ fn certificate_sentence(alloc: Global, certificate: &&str) -> Result<String, Fau
 
 fn sentence_of(alloc: Global, visits: Result<u64, Fault>) -> Result<String, Fault> {
     match visits {
-        Err(Fault::Memory) => Err(Fault::Memory),
+        Err(Fault::Memory(refused)) => Err(Fault::Memory(refused)),
         Err(fault) => Ok(format!(in alloc; "{fault}")?),
         Ok(_) => Ok(String::new(alloc)),
     }

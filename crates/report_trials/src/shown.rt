@@ -166,7 +166,7 @@ pub(crate) fn refusal(
 ) -> Result<String, Fail> {
     match visits(alloc, source, certificate) {
         Ok(_) => Ok(String::new(alloc)),
-        Err(Fault::Memory) => Err(Fault::Memory.into()),
+        Err(Fault::Memory(refused)) => Err(Fault::Memory(refused).into()),
         Err(fault) => refusal_told(alloc, &fault),
     }
 }

@@ -5,6 +5,7 @@ use Rattle.std.specs.Prelude.{IsPermutation, flat_map, vec_len}
 use Rattle.std.specs.List.{range_with_len}
 use Rattle.std.proofs.lemmas.Grind.{flat_map-append}
 use Rattle.std.proofs.lemmas.List.{length-map}
+use Rattle.memory.specs.Refused.{the_refusal}
 use Rattle.place.specs.Place.{ArePlacesInOrder}
 use Rattle.syntax_tree.specs.declared.Program.{Program}
 use Rattle.syntax_tree.specs.Places.{program_places}
@@ -81,7 +82,7 @@ module _ (program : Program) (made : List MadeBlock) (last : Passed) (typed : ty
 
 -- blocks as they are laid out
 pub laid_from : (program : Program) (last : Passed) (made : List MadeBlock) → typing program ≡ Ok (after tt (look_made made) last)
-    → (answer : Result LaidBlocks TypeFault) → MatchResult answer (AreLaidOut made) (λ why. why ≡ Memory)
+    → (answer : Result LaidBlocks TypeFault) → MatchResult answer (AreLaidOut made) (λ why. why ≡ Memory the_refusal)
     → MatchResult answer (AreLaidBlocks program last) (IsFault (typing program))
 laid_from program last made typed (Ok laid) are = record { made = made; typed = typed; laid_out = are }
 laid_from program last made typed (Err why) is = inl is

@@ -1,5 +1,5 @@
 -- The table of loops: what is met behind statements, one after another, and behind loops.
-use Rattle.std.proofs.Common.{◌≡◌, ℕ, false, ◌+◌, ◌<◌, ◌≤◌, List, [], ◌∷◌, ◌++◌, length, map, drop, set, get_or, sym, ap, ap₂, ◌∙◌, append-nil, append_assoc}
+use Rattle.std.proofs.Common.{◌≡◌, ℕ, None, ◌+◌, ◌<◌, ◌≤◌, List, [], ◌∷◌, ◌++◌, length, map, drop, set, get_or, sym, ap, ap₂, ◌∙◌, append-nil, append_assoc}
 use Rattle.std.proofs.lemmas.List.{map-append, map-set, drop_more, at_drop_all}
 use Rattle.std.proofs.Math.Seq.{set-append_seam, drop-append_seam}
 use Rattle.typed_tree.specs.declared.tree.Loop.{Loop}
@@ -65,7 +65,7 @@ module _ (statements : List Stmt) (old : Met) where
   -- what is left, once some are met
   abbrev pub IsLeftFrom : ℕ → Met → Type 0
   IsLeftFrom i now =
-      now.is_short ≡ false → (old.is_short ≡ false)
+      now.refused ≡ None → (old.refused ≡ None)
       × (meets (all_inside (map inside_of statements)) (seen old) ≡ meets (all_inside (map inside_of (drop i statements))) (seen now))
 
   pub next_met : (i : ℕ) (next : Stmt) (now new : Met) → i < length statements → next ≡ get_or statements i next → IsLeftFrom i now

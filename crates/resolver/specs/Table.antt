@@ -1,6 +1,6 @@
 -- How the table of loops is gathered from a statement: what was met so far, and what is met inside a statement.
 -- It says nothing of what a loop does.
-use Rattle.std.specs.Prelude.{◌≡◌, ℕ, false, List, [], ◌∷◌, ◌++◌, map, drop, flat_map, set}
+use Rattle.std.specs.Prelude.{◌≡◌, ℕ, None, List, [], ◌∷◌, ◌++◌, map, drop, flat_map, set}
 use Rattle.typed_tree.specs.declared.tree.Loop.{Loop}
 use Rattle.typed_tree.specs.Loops.{Inside, loops_of_statement}
 use Rattle.resolver.specs.declared.table.Met.{Met}
@@ -42,7 +42,7 @@ closed row start s =
 
 -- what was met behind a step, unless memory ran out
 abbrev pub Meets : (Seen → Seen) → Met → Met → Type 0
-Meets step old new = new.is_short ≡ false → (old.is_short ≡ false) × (seen new ≡ step (seen old))
+Meets step old new = new.refused ≡ None → (old.refused ≡ None) × (seen new ≡ step (seen old))
 
 -- the rows of the loops of a block that was made
 abbrev pub rows_of_made : MadeBlock → List (ℕ × List ℕ)

@@ -15,6 +15,7 @@ ghost use Rattle.declarations.specs.Parts.{declared};
 ghost use Rattle.typing.specs.declared.typer.TheConstants.{MOST_SITES};
 ghost use Rattle.types.specs.Types.{BeginWithRequired};
 ghost use Rattle.typing.specs.Passing.{after};
+ghost use Rattle.memory.specs.Refused.{the_refusal};
 ghost use Rattle.typed_tree.specs.declared.fault.TypeFault.TheVariants.{Memory};
 ghost use Rattle.resolver.specs.Made.{AreArranged, AreLaidBlocks, AreLaidOut, IsResolved, are_held_made, look_made};
 
@@ -114,7 +115,7 @@ fn program_blocks(
 #[tactic(auto, using(crate::proofs::Arranged::arranged_held))]
 fn laid_out(alloc: Global, made: Vec<MadeBlock>) -> Result<LaidBlocks, TypeFault>
     requires held { are_held_made made.items ≡ true }
-    ensures { MatchResult result (AreLaidOut made.items) (λ why. why ≡ Memory) }
+    ensures { MatchResult result (AreLaidOut made.items) (λ why. why ≡ Memory the_refusal) }
 {
     let loops = table_of(alloc, &made)?;
     let bodies = made.iter().map(|one| one.number).collect(alloc)?;

@@ -1,31 +1,33 @@
-ghost use Rattle.std.specs.Prelude.{◌≡◌, ◌++◌, false, IfOk, MatchResult, drop, length, map};
+ghost use Rattle.std.specs.Prelude.{◌≡◌, ◌++◌, None, IfOk, MatchResult, drop, length, map};
 ghost use Rattle.typed_tree.specs.Loops.{all_inside, inside_of};
+ghost use Rattle.memory.specs.Refused.{the_refusal};
 ghost use Rattle.typed_tree.specs.declared.fault.TypeFault.TheVariants.{Memory};
 ghost use Rattle.resolver.specs.Table.{Meets, closed, controlled, meets, opened, rows_of_made, seen, IsTableOf};
 
 use crate::typed::MadeBlock;
+use memory::Refused;
 use std::alloc::{AllocError, Global};
 use typed_tree::fault::TypeFault;
 use typed_tree::tree::{Loop, Stmt};
 
 /// The table of the loops of blocks, which stand in the order of the text.
 pub(crate) fn table_of(alloc: Global, blocks: &[MadeBlock]) -> Result<Vec<Loop>, TypeFault>
-    ensures { MatchResult result (λ rows. IsTableOf blocks.now rows.items) (λ why. why ≡ Memory) }
+    ensures { MatchResult result (λ rows. IsTableOf blocks.now rows.items) (λ why. why ≡ Memory the_refusal) }
 {
     let mut met = Met {
         alloc,
         block: 0,
         loops: Vec::new(alloc),
         controls: Vec::new(alloc),
-        is_short: false,
+        refused: None,
     };
     for made in blocks {
         meet_block(&mut met, made);
     }
-    if met.is_short {
-        return Err(TypeFault::Memory);
+    match met.refused {
+        Some(refused) => Err(TypeFault::Memory(refused)),
+        None => Ok(met.loops),
     }
-    Ok(met.loops)
 }
 
 // The rows of the loops, and the control variables, that were met so far.
@@ -36,14 +38,14 @@ struct Met {
     block: u32,
     loops: Vec<Loop>,
     controls: Vec<u32>,
-    // Memory ran out, so that rows are missing.
-    is_short: bool,
+    // That memory ran out, so that rows are missing.
+    refused: Option<Refused>,
 }
 
 // Meets what stands inside a block.
 #[tactic(auto, using(crate::proofs::Tables::block_met))]
 fn meet_block(met: &mut Met, made: &MadeBlock)
-    ensures { met.new.is_short ≡ false → (met.old.is_short ≡ false)
+    ensures { met.new.refused ≡ None → (met.old.refused ≡ None)
         × ((seen met.new).rows ≡ (seen met.old).rows ++ rows_of_made made.now) }
 {
     met.block = made.number;
@@ -112,8 +114,8 @@ fn meet_all(met: &mut Met, statements: &[Stmt])
 fn meet_control(met: &mut Met, root: u32)
     ensures { Meets (controlled root) met.old met.new }
 {
-    if met.controls.push(root).is_err() {
-        met.is_short = true;
+    if let Err(error) = met.controls.push(root) {
+        met.refused = Some(error.into());
     }
 }
 
@@ -128,8 +130,8 @@ fn open(met: &mut Met) -> (usize, usize)
         block: met.block,
         controls: Vec::new(met.alloc),
     };
-    if met.loops.push(begun).is_err() {
-        met.is_short = true;
+    if let Err(error) = met.loops.push(begun) {
+        met.refused = Some(error.into());
     }
     at
 }
@@ -139,9 +141,12 @@ fn open(met: &mut Met) -> (usize, usize)
 fn close(met: &mut Met, row: usize, start: usize)
     ensures { Meets (closed row start) met.old met.new }
 {
-    let Ok(controls) = behind(met.alloc, &met.controls, start) else {
-        met.is_short = true;
-        return;
+    let controls = match behind(met.alloc, &met.controls, start) {
+        Ok(controls) => controls,
+        Err(error) => {
+            met.refused = Some(error.into());
+            return;
+        }
     };
     let block = met.block;
     if let Some(told) = met.loops.get_mut(row) {

@@ -5,6 +5,7 @@ ghost use Rattle.std.specs.HashMap.{get_by};
 ghost use Rattle.scopes.specs.Scopes.{Region, innermost, is_defined, listing, opened, opened_beside, opened_with};
 ghost use Rattle.scopes.specs.Scopes.{outer};
 ghost use Rattle.scopes.specs.Scopes.{region_of, said};
+ghost use Rattle.memory.specs.Refused.{the_refusal};
 ghost use Rattle.scopes.specs.declared.fault.ScopeFault.TheVariants.{Memory};
 
 use crate::denotation::{Definition, Denotation};
@@ -41,9 +42,8 @@ impl Scopes {
     }
 
     /// Begins a region with all names that its block will define, each once. Without memory none begins.
-    pub fn open(&mut self, alloc: Global, names: &[Vec<u8>]) -> Result<(), ScopeFault>
+    pub fn open(&mut self, alloc: Global, names: &[Vec<u8>]) -> Result<(), AllocError>
         ensures opened { OnOk result (self.new ≡ opened (map (λ name. name.items) names.now) ∷ self.old) }
-        ensures refused { IfErr result (λ fault. fault ≡ Memory) }
         ensures unchanged { OnErr result (self.new ≡ self.old) }
     {
         let region = region(alloc, names)?;
@@ -56,9 +56,8 @@ impl Scopes {
         &mut self,
         alloc: Global,
         definitions: &[(&[u8], Denotation)],
-    ) -> Result<(), ScopeFault>
+    ) -> Result<(), AllocError>
         ensures opened { OnOk result (self.new ≡ opened_with (map (λ d. (d.0.now, d.1)) definitions.now) ∷ self.old) }
-        ensures refused { IfErr result (λ fault. fault ≡ Memory) }
         ensures unchanged { OnErr result (self.new ≡ self.old) }
     {
         let region = defined_region(alloc, definitions)?;
@@ -68,10 +67,9 @@ impl Scopes {
 
     /// Begins a region whose names are those of the fields of a record, all of them defined. Without memory none
     /// begins.
-    pub fn open_fields(&mut self, alloc: Global, fields: &[Definition]) -> Result<(), ScopeFault>
+    pub fn open_fields(&mut self, alloc: Global, fields: &[Definition]) -> Result<(), AllocError>
         ensures opened { OnOk result
             (self.new ≡ opened_with (map (λ d. (d.name.items, d.denotation)) fields.now) ∷ self.old) }
-        ensures refused { IfErr result (λ fault. fault ≡ Memory) }
         ensures unchanged { OnErr result (self.new ≡ self.old) }
     {
         let region = fields_region(alloc, fields)?;
@@ -81,10 +79,9 @@ impl Scopes {
 
     /// Begins a region with the names of parameters, as they are defined, and beside them with all names that its block
     /// will define, each once. Without memory none begins.
-    pub fn open_beside(&mut self, parameters: Region, names: &[Vec<u8>]) -> Result<(), ScopeFault>
+    pub fn open_beside(&mut self, parameters: Region, names: &[Vec<u8>]) -> Result<(), AllocError>
         ensures opened { OnOk result
             (self.new ≡ opened_beside (region_of parameters) (map (λ name. name.items) names.now) ∷ self.old) }
-        ensures refused { IfErr result (λ fault. fault ≡ Memory) }
         ensures unchanged { OnErr result (self.new ≡ self.old) }
     {
         let region = region_beside(parameters, names)?;
@@ -117,8 +114,8 @@ impl Scopes {
         requires known { Knows self.old name.items }
         ensures defined { OnOk result (define name.items denotation self.old ≡ Ok self.new) }
         ensures refused { IfErr result
-            (λ fault. (fault ≡ Memory) ⊎ (define name.items denotation self.old ≡ Err fault)) }
-        ensures memory { result ≡ Err Memory → IsOk (define name.items denotation self.old) }
+            (λ fault. (fault ≡ Memory the_refusal) ⊎ (define name.items denotation self.old ≡ Err fault)) }
+        ensures memory { result ≡ Err (Memory the_refusal) → IsOk (define name.items denotation self.old) }
         ensures unchanged { OnErr result (self.new ≡ self.old) }
     {
         let Some(region) = self.blocks.last_mut() else {
@@ -147,17 +144,16 @@ impl Scopes {
 }
 
 /// A region with the same names, which say the same.
-pub fn copied(names: &Region) -> Result<Region, ScopeFault>
-    ensures { MatchResult result (λ region. region_of region ≡ region_of names.now) (λ fault. fault ≡ Memory) }
+pub fn copied(names: &Region) -> Result<Region, AllocError>
+    ensures { IfOk result (λ region. region_of region ≡ region_of names.now) }
 {
     Ok(names.clone()?)
 }
 
 // The region of a block that defines these names.
-fn region(alloc: Global, names: &[Vec<u8>]) -> Result<Region, ScopeFault>
-    ensures { MatchResult result
-        (λ region. region_of region ≡ opened (map (λ name. name.items) names.now))
-        (λ fault. fault ≡ Memory) }
+fn region(alloc: Global, names: &[Vec<u8>]) -> Result<Region, AllocError>
+    ensures { IfOk result
+        (λ region. region_of region ≡ opened (map (λ name. name.items) names.now)) }
 {
     let mut region = IndexMap::new(alloc);
     for name in names {
@@ -167,10 +163,9 @@ fn region(alloc: Global, names: &[Vec<u8>]) -> Result<Region, ScopeFault>
 }
 
 // The region of a block that defines these names beside parameters.
-fn region_beside(parameters: Region, names: &[Vec<u8>]) -> Result<Region, ScopeFault>
-    ensures { MatchResult result
-        (λ region. region_of region ≡ opened_beside (region_of parameters) (map (λ name. name.items) names.now))
-        (λ fault. fault ≡ Memory) }
+fn region_beside(parameters: Region, names: &[Vec<u8>]) -> Result<Region, AllocError>
+    ensures { IfOk result
+        (λ region. region_of region ≡ opened_beside (region_of parameters) (map (λ name. name.items) names.now)) }
 {
     let mut region = parameters;
     for name in names {
@@ -180,10 +175,9 @@ fn region_beside(parameters: Region, names: &[Vec<u8>]) -> Result<Region, ScopeF
 }
 
 // Lists a name too.
-fn list(region: &mut Region, name: &Vec<u8>) -> Result<(), ScopeFault>
-    ensures { MatchResult result
-        (λ _. region_of region.new ≡ listing (region_of region.old) name.now.items)
-        (λ fault. fault ≡ Memory) }
+fn list(region: &mut Region, name: &Vec<u8>) -> Result<(), AllocError>
+    ensures { IfOk result
+        (λ _. region_of region.new ≡ listing (region_of region.old) name.now.items) }
 {
     if !region.contains_key(name.as_slice()) {
         region.insert(name.clone()?, None)?;
@@ -192,10 +186,9 @@ fn list(region: &mut Region, name: &Vec<u8>) -> Result<(), ScopeFault>
 }
 
 // A region whose names are all defined.
-fn defined_region(alloc: Global, definitions: &[(&[u8], Denotation)]) -> Result<Region, ScopeFault>
-    ensures { MatchResult result
-        (λ region. region_of region ≡ opened_with (map (λ d. (d.0.now, d.1)) definitions.now))
-        (λ fault. fault ≡ Memory) }
+fn defined_region(alloc: Global, definitions: &[(&[u8], Denotation)]) -> Result<Region, AllocError>
+    ensures { IfOk result
+        (λ region. region_of region ≡ opened_with (map (λ d. (d.0.now, d.1)) definitions.now)) }
 {
     let mut region = IndexMap::new(alloc);
     for definition in definitions {
@@ -205,10 +198,9 @@ fn defined_region(alloc: Global, definitions: &[(&[u8], Denotation)]) -> Result<
 }
 
 // The same of fields.
-fn fields_region(alloc: Global, fields: &[Definition]) -> Result<Region, ScopeFault>
-    ensures { MatchResult result
-        (λ region. region_of region ≡ opened_with (map (λ d. (d.name.items, d.denotation)) fields.now))
-        (λ fault. fault ≡ Memory) }
+fn fields_region(alloc: Global, fields: &[Definition]) -> Result<Region, AllocError>
+    ensures { IfOk result
+        (λ region. region_of region ≡ opened_with (map (λ d. (d.name.items, d.denotation)) fields.now)) }
 {
     let mut region = IndexMap::new(alloc);
     for field in fields {

@@ -3,6 +3,7 @@
 use Rattle.std.proofs.Common.{◌≡◌, List, [], ◌∷◌, ◌++◌, Result, Ok, Err, sym, ap, subst, ◌∙◌}
 use Rattle.std.specs.declared.alloc.Global.{Global}
 use Rattle.std.specs.declared.boxed.Box.{Box}
+use Rattle.memory.specs.Refused.{the_refusal}
 use Rattle.reading.specs.declared.refusal.Refusal.{Refusal}
 use Rattle.reading.specs.declared.refusal.Refusal.TheVariants.{Memory}
 use Rattle.lexer.specs.declared.token.Kind.{Kind}
@@ -25,7 +26,7 @@ was_put look outcome (Ok made) new before after h p = record { made = made; read
 was_put look outcome (Err why) new before after h p = absurd p
 
 pub not_put : {A T : Type 0} (look : T → A) (outcome : Outcome A) (found : Result T Refusal) (new : Cursor) (before after : List T) (why : Refusal)
-    → Makes look outcome found new → Puts before found (Err why) after → (¬ (why ≡ Memory)) → outcome ≡ Err (why, new.rest.now)
+    → Makes look outcome found new → Puts before found (Err why) after → (¬ (why ≡ Memory the_refusal)) → outcome ≡ Err (why, new.rest.now)
 not_put {A} {T} look outcome (Ok made) new before after why h p m = let e : ◌≡◌ {A = Result T Refusal} (Ok made) (Err why) = p m in absurd cc
 not_put {A} {T} look outcome (Err other) new before after why h p m =
     let e : ◌≡◌ {A = Result T Refusal} (Err other) (Err why) = p m in let is : other ≡ why = cc in

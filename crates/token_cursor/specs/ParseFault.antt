@@ -1,6 +1,7 @@
 -- The faults of a list of tokens, P1 to P3: their numbers, their places, and which one a refusal is.
 -- This doesn't say which list has which fault.
 use Rattle.std.specs.Prelude.{ℕ, ◌+◌, ◌-◌, ◌^◌, min, List, length, Option, Some, None, slice_get}
+use Rattle.memory.specs.Refused.{the_refusal}
 use Rattle.place.specs.declared.Place.{Place}
 use Rattle.place.specs.Place.{start}
 use Rattle.lexer.specs.declared.token.Token.{Token}
@@ -11,14 +12,14 @@ use Rattle.reading.specs.declared.refusal.Refusal.TheVariants as refusal
 
 -- the number of a fault behind the letter P, and 0 for want of memory
 abbrev pub number_of : ParseFault → ℕ
-number_of Memory = 0
+number_of (Memory _) = 0
 number_of (NoProgram p) = 1
 number_of (TooDeep p) = 2
 number_of (LeftOut p) = 3
 
 -- where a fault stands in the text
 abbrev pub place_of_fault : ParseFault → Option Place
-place_of_fault Memory = None
+place_of_fault (Memory _) = None
 place_of_fault (NoProgram p) = Some p
 place_of_fault (TooDeep p) = Some p
 place_of_fault (LeftOut p) = Some p
@@ -45,6 +46,6 @@ place_or_end tokens (Some place) = place
 
 -- the fault that a refusal is of tokens, of which so many are left
 abbrev pub fault_of : List Token → ℕ → Refusal → ParseFault
-fault_of tokens left refusal.Memory = Memory
+fault_of tokens left (refusal.Memory _) = Memory the_refusal
 fault_of tokens left refusal.NoProgram = NoProgram (place_at tokens (length tokens - left))
 fault_of tokens left (refusal.TooDeep at) = TooDeep (place_or_end tokens at)

@@ -4,6 +4,7 @@
 use Rattle.std.specs.Prelude.{◌≡◌, List, Bool, length, Result, Ok, Err}
 use Rattle.std.specs.declared.alloc.Global.{Global}
 use Rattle.std.specs.declared.vec.Vec.{Vec}
+use Rattle.memory.specs.Refused.{the_refusal}
 use Rattle.reading.specs.declared.refusal.Refusal.{Refusal}
 use Rattle.reading.specs.declared.refusal.Refusal.TheVariants.{Memory}
 use Rattle.reading.specs.Reading.{Outcome}
@@ -15,4 +16,4 @@ abbrev pub MakesRows : {X Y A : Type 0} → (List X → List Y → Bool → A) �
 MakesRows look outcome (Ok made) new =
     (length made.0.items ≡ length made.1.items)
     × (outcome ≡ Ok (look made.0.items made.1.items made.2, new.rest.now))
-MakesRows look outcome (Err why) new = (¬ (why ≡ Memory)) → outcome ≡ Err (why, new.rest.now)
+MakesRows look outcome (Err why) new = (¬ (why ≡ Memory the_refusal)) → outcome ≡ Err (why, new.rest.now)

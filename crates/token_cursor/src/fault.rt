@@ -2,6 +2,7 @@ ghost use Rattle.std.specs.Prelude.{◌≡◌};
 ghost use Rattle.token_cursor.specs.ParseFault.{end_of, fault_of, place_at};
 
 use lexer::token::Token;
+use memory::Refused;
 use place::Place;
 use reading::refusal::Refusal;
 use thiserror::Error;
@@ -10,7 +11,7 @@ use thiserror::Error;
 #[derive(Clone, Copy, Debug, Error)]
 pub enum ParseFault {
     #[error("no memory")]
-    Memory,
+    Memory(Refused),
     /// P1, where no program goes on: at a token, or just past the end of the text.
     #[error("{0}: no program")]
     NoProgram(Place),
@@ -30,7 +31,7 @@ impl ParseFault {
         ensures { result ≡ number_of self.now }
     {
         match self {
-            ParseFault::Memory => 0,
+            ParseFault::Memory(_) => 0,
             ParseFault::NoProgram(_) => 1,
             ParseFault::TooDeep(_) => 2,
             ParseFault::LeftOut(_) => 3,
@@ -42,7 +43,7 @@ impl ParseFault {
         ensures { result ≡ place_of_fault self.now }
     {
         match self {
-            ParseFault::Memory => None,
+            ParseFault::Memory(_) => None,
             ParseFault::NoProgram(place)
             | ParseFault::TooDeep(place)
             | ParseFault::LeftOut(place) => Some(*place),
@@ -55,7 +56,7 @@ pub fn fault_of(tokens: &[Token<'_>], left: usize, refusal: Refusal) -> ParseFau
     ensures { result ≡ fault_of tokens.now left refusal }
 {
     match refusal {
-        Refusal::Memory => ParseFault::Memory,
+        Refusal::Memory(refused) => ParseFault::Memory(refused),
         Refusal::NoProgram => {
             ParseFault::NoProgram(place_at(tokens, tokens.len().saturating_sub(left)))
         }

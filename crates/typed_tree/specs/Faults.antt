@@ -23,7 +23,7 @@ letter_y = 89
 
 -- the letter of a rule and the number behind it, and 0 for want of memory
 abbrev pub code_of : TypeFault → ℕ × ℕ
-code_of Memory = (0, 0)
+code_of (Memory _) = (0, 0)
 code_of (DeclaredTwice p) = (letter_s, 1)
 code_of (UsedBeforeDeclared p) = (letter_s, 2)
 code_of (NotDeclared p) = (letter_s, 3)
@@ -44,7 +44,7 @@ code_of (MembersOutOfRange p) = (letter_y, 3)
 
 -- where a fault stands in the text
 abbrev pub place_of_fault : TypeFault → Option Place
-place_of_fault Memory = None
+place_of_fault (Memory _) = None
 place_of_fault (DeclaredTwice p) = Some p
 place_of_fault (UsedBeforeDeclared p) = Some p
 place_of_fault (NotDeclared p) = Some p

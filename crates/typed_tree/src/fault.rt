@@ -1,6 +1,8 @@
 ghost use Rattle.std.specs.Prelude.{◌≡◌};
+ghost use Rattle.memory.specs.Refused.{the_refusal};
 ghost use Rattle.typed_tree.specs.declared.fault.TypeFault.TheVariants.{Memory};
 
+use memory::Refused;
 use place::Place;
 use std::alloc::{AllocError, AllocFailed};
 use thiserror::Error;
@@ -9,7 +11,7 @@ use thiserror::Error;
 #[derive(Clone, Copy, Debug, Error)]
 pub enum TypeFault {
     #[error("no memory")]
-    Memory,
+    Memory(Refused),
     /// S1, at a name that is declared twice in one block.
     #[error("{0}: declared twice in one block")]
     DeclaredTwice(Place),
@@ -73,7 +75,7 @@ impl TypeFault {
         ensures { result ≡ code_of self.now }
     {
         match self {
-            TypeFault::Memory => (0, 0),
+            TypeFault::Memory(_) => (0, 0),
             TypeFault::DeclaredTwice(_) => (b'S', 1),
             TypeFault::UsedBeforeDeclared(_) => (b'S', 2),
             TypeFault::NotDeclared(_) => (b'S', 3),
@@ -99,7 +101,7 @@ impl TypeFault {
         ensures { result ≡ place_of_fault self.now }
     {
         match self {
-            TypeFault::Memory => None,
+            TypeFault::Memory(_) => None,
             TypeFault::DeclaredTwice(place)
             | TypeFault::UsedBeforeDeclared(place)
             | TypeFault::NotDeclared(place)
@@ -122,17 +124,17 @@ impl TypeFault {
 }
 
 impl From<AllocError> for TypeFault {
-    ghost from_gives = { λ _ e. e ≡ Memory };
+    ghost from_gives = { λ _ e. e ≡ Memory the_refusal };
 
-    fn from(_error: AllocError) -> TypeFault {
-        TypeFault::Memory
+    fn from(error: AllocError) -> TypeFault {
+        TypeFault::Memory(error.into())
     }
 }
 
 impl<T: Drop> From<AllocFailed<T>> for TypeFault {
-    ghost from_gives = { λ _ e. e ≡ Memory };
+    ghost from_gives = { λ _ e. e ≡ Memory the_refusal };
 
-    fn from(_error: AllocFailed<T>) -> TypeFault {
-        TypeFault::Memory
+    fn from(error: AllocFailed<T>) -> TypeFault {
+        TypeFault::Memory(error.into())
     }
 }

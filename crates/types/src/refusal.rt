@@ -1,12 +1,14 @@
 ghost use Rattle.std.specs.Prelude.{◌≡◌};
+ghost use Rattle.memory.specs.Refused.{the_refusal};
 ghost use Rattle.types.specs.declared.refusal.TypeRefusal.TheVariants.{Memory};
 
+use memory::Refused;
 use std::alloc::{AllocError, AllocFailed};
 
 /// Why a form can't be a type of a table.
 #[derive(Clone, Copy)]
 pub enum TypeRefusal {
-    Memory,
+    Memory(Refused),
     /// Y1: the first value of a subrange lies above its last (6.4.2.4).
     FirstAboveLast,
     /// Y2: a variable of the type takes over 65,536 cells.
@@ -16,17 +18,17 @@ pub enum TypeRefusal {
 }
 
 impl From<AllocError> for TypeRefusal {
-    ghost from_gives = { λ _ e. e ≡ Memory };
+    ghost from_gives = { λ _ e. e ≡ Memory the_refusal };
 
-    fn from(_error: AllocError) -> TypeRefusal {
-        TypeRefusal::Memory
+    fn from(error: AllocError) -> TypeRefusal {
+        TypeRefusal::Memory(error.into())
     }
 }
 
 impl<T: Drop> From<AllocFailed<T>> for TypeRefusal {
-    ghost from_gives = { λ _ e. e ≡ Memory };
+    ghost from_gives = { λ _ e. e ≡ Memory the_refusal };
 
-    fn from(_error: AllocFailed<T>) -> TypeRefusal {
-        TypeRefusal::Memory
+    fn from(error: AllocFailed<T>) -> TypeRefusal {
+        TypeRefusal::Memory(error.into())
     }
 }

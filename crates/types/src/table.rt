@@ -4,6 +4,7 @@ ghost use Rattle.types.specs.Types.{admitted, admitted_cells, cells_at, counted,
 ghost use Rattle.types.specs.Types.{has_outside_members, own_field, required_forms, values_at};
 ghost use Rattle.types.specs.Forms.{Form, field_form, form_of};
 ghost use Rattle.types.specs.Kept.{counted_of, forms_of};
+ghost use Rattle.memory.specs.Refused.{the_refusal};
 ghost use Rattle.types.specs.declared.refusal.TypeRefusal.TheVariants.{Memory};
 
 use crate::form::{ArrayElement, Field, OrdinalRange, RecordField, TypeForm, TypeId, TypeKind};
@@ -67,7 +68,7 @@ impl TypeTable {
         ensures added { OnOk result (self.new ≡ self.old ++ form_of form ∷ []) }
         ensures unchanged { OnErr result (self.new ≡ self.old) }
         ensures told { (result ≡ admitted self.old (form_of form))
-            ⊎ (IsOk (admitted self.old (form_of form)) × (result ≡ Err Memory)) }
+            ⊎ (IsOk (admitted self.old (form_of form)) × (result ≡ Err (Memory the_refusal))) }
     {
         let cells = self.admit(&form)?;
         let index = self.entries.len();

@@ -4,6 +4,7 @@ use Rattle.std.proofs.Common.{ap, ap₂, subst, ◌∙◌, append_assoc, append-
 use Rattle.std.proofs.lemmas.Bool.{cases_lt}
 use Rattle.std.specs.declared.alloc.Global.{Global}
 use Rattle.std.proofs.lemmas.List.{drop_more, at_drop_all}
+use Rattle.memory.specs.Refused.{the_refusal}
 use Rattle.place.specs.declared.Place.{Place}
 use Rattle.syntax_tree.specs.declared.Name.{Name}
 use Rattle.syntax_tree.specs.Places.{fields_of}
@@ -173,7 +174,7 @@ module _ {A : Type 0} (written : A → WrittenDenoter) (rows : List (Vec Name Gl
           ∙ behind_nothing (grouped_fields more (groups_from (i + 1)) new)
 
       -- its names are refused
-      pub group_names_stop : (why : TypeFault) → (why ≡ Memory) ⊎ (named_fields fields id row.items ≡ Err why)
+      pub group_names_stop : (why : TypeFault) → (why ≡ Memory the_refusal) ⊎ (named_fields fields id row.items ≡ Err why)
           → IsFault (grouped_fields [] (fields_of rows (map written forms)) old) why
       group_names_stop why (inl memory) = inl memory
       group_names_stop why (inr twice) = inr (

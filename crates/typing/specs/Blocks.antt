@@ -1,6 +1,7 @@
 -- Where blocks and headings begin and end, as steps: what the calls do that pass them. It says nothing of what stands
 -- in between.
 use Rattle.std.specs.Prelude.{◌≡◌, ◌⊎◌, ℕ, ◌++◌, List, [], ◌∷◌, Option, None, Some, Result, Ok, Err, length}
+use Rattle.memory.specs.Refused.{the_refusal}
 use Rattle.place.specs.declared.Place.{Place}
 use Rattle.typed_tree.specs.declared.fault.TypeFault.{TypeFault}
 use Rattle.typed_tree.specs.declared.fault.TypeFault.TheVariants.{Memory}
@@ -60,7 +61,7 @@ pub record IsCallee (heading : Headed) (place : Place) (count : ℕ) (made : Cal
 abbrev pub FindsCallee : Headed → Place → ℕ → Result Callee TypeFault → Type 0
 FindsCallee heading place count (Ok made) = IsCallee heading place count made
 FindsCallee heading place count (Err why) =
-    (why ≡ Memory) ⊎ (are_as_many place count (length heading.parameters) ≡ Err why)
+    (why ≡ Memory the_refusal) ⊎ (are_as_many place count (length heading.parameters) ≡ Err why)
 
 -- the place of a routine that waits
 abbrev pub place_of : Option (ℕ × Option Place) → Option Place

@@ -6,6 +6,7 @@ use Rattle.std.specs.Prelude.{ℕ, ◌+◌, ◌-◌, ◌&&◌, ℤ, Bool, List, 
 use Rattle.std.specs.Prelude.{if◌then◌else◌, nat_eq, option_map}
 use Rattle.std.specs.List.{list_any}
 use Rattle.std.specs.Cmp.Lexicographic.{pointwise}
+use Rattle.memory.specs.Refused.{the_refusal}
 use Rattle.place.specs.declared.Place.{Place}
 use Rattle.syntax_tree.specs.declared.Constant.{Constant}
 use Rattle.syntax_tree.specs.declared.Name.{Name}
@@ -48,7 +49,7 @@ named_type name (Ok (denotes.File file)) = Err (fault.Mismatch name.place)
 named_type name (Err scope.UsedBeforeDeclared) = Err (fault.UsedBeforeDeclared name.place)
 named_type name (Err scope.NotDeclared) = Err (fault.NotDeclared name.place)
 named_type name (Err scope.DeclaredTwice) = Err (fault.DeclaredTwice name.place)
-named_type name (Err scope.Memory) = Err fault.Memory
+named_type name (Err (scope.Memory _)) = Err (fault.Memory the_refusal)
 
 -- the type that a name denotes
 unfoldable pub type_of_name : Name → Passing TypeId

@@ -1,6 +1,7 @@
 -- How calls answer that compute a typing: what it answers, or exactly its fault; or want of memory, which comes from
 -- refused growths alone. It says nothing of what a typing answers.
 use Rattle.std.specs.Prelude.{◌≡◌, ◌⊎◌, [], Result, Ok, Err}
+use Rattle.memory.specs.Refused.{the_refusal}
 use Rattle.typed_tree.specs.declared.fault.TypeFault.{TypeFault}
 use Rattle.typed_tree.specs.declared.fault.TypeFault.TheVariants.{Memory}
 use Rattle.typed_tree.specs.Look.{Look}
@@ -14,7 +15,7 @@ Tells outcome (Err why) new = outcome ≡ Err why
 
 -- why there is no answer: want of memory, or the fault of the outcome
 abbrev pub IsFault : {A : Type 0} → Checked A → TypeFault → Type 0
-IsFault outcome why = (why ≡ Memory) ⊎ (outcome ≡ Err why)
+IsFault outcome why = (why ≡ Memory the_refusal) ⊎ (outcome ≡ Err why)
 
 -- a step that may lack memory
 abbrev pub Takes : {A : Type 0} → Checked (After A) → Result A TypeFault → Passed → Type 0

@@ -5,6 +5,7 @@ use Rattle.std.specs.Prelude.{None}
 use Rattle.std.specs.Prelude.{Result, Ok, Err, if◌then◌else◌, nat_eq, nat_le, nat_lt, length, slice_get, take, get_or}
 use Rattle.std.specs.Prelude.{flat_map}
 use Rattle.std.specs.List.{list_any}
+use Rattle.memory.specs.Refused.{the_refusal}
 use Rattle.place.specs.declared.Place.{Place}
 use Rattle.syntax_tree.specs.declared.Name.{Name}
 use Rattle.types.specs.Forms.{FieldForm, Form, Record}
@@ -222,7 +223,7 @@ declare name denotation = λ s.
 
 -- a rule that the form of a type breaks, at its place
 abbrev pub refused : TypeRefusal → Place → TypeFault
-refused refusal.Memory place = fault.Memory
+refused (refusal.Memory _) place = fault.Memory the_refusal
 refused refusal.FirstAboveLast place = fault.FirstAboveLast place
 refused refusal.TooManyCells place = fault.TooManyCells place
 refused refusal.MembersOutOfRange place = fault.MembersOutOfRange place

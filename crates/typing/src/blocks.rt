@@ -1,4 +1,5 @@
 ghost use Rattle.std.specs.Prelude.{◌≡◌, ◌≤◌, [], ◌∷◌, ◌++◌, Ok, IfOk, MatchResult, map};
+ghost use Rattle.memory.specs.Refused.{the_refusal};
 ghost use Rattle.typed_tree.specs.declared.fault.TypeFault.TheVariants.{Memory};
 ghost use Rattle.types.specs.Types.{most_cells};
 
@@ -34,13 +35,13 @@ impl PassedHeading {
 
     // A copy of it.
     fn copied(&self, alloc: Global) -> Result<PassedHeading, TypeFault>
-        ensures { MatchResult result (λ copy. headed_of copy ≡ headed_of self.now) (λ why. why ≡ Memory) }
+        ensures { MatchResult result (λ copy. headed_of copy ≡ headed_of self.now) (λ why. why ≡ Memory the_refusal) }
     {
         Ok(PassedHeading {
             around: Vec::from_slice(alloc, &self.around)?,
             parameters: Vec::from_slice(alloc, &self.parameters)?,
             result: self.result,
-            region: copied(&self.region).map_err(|_| TypeFault::Memory)?,
+            region: copied(&self.region)?,
             cells: self.cells,
         })
     }
@@ -190,9 +191,7 @@ impl Typer {
         ensures { BeginsBlock (block_begins number (map (λ name. name.items) names.now) self.old) result self.new }
     {
         let heading = self.copied_heading(number)?;
-        self.scopes
-            .open_beside(heading.region, names)
-            .map_err(|_| TypeFault::Memory)?;
+        self.scopes.open_beside(heading.region, names)?;
         let begun = EnclosingBlock {
             block: number,
             around: Vec::from_slice(self.alloc, &heading.around)?,
@@ -211,7 +210,7 @@ impl Typer {
     fn copied_heading(&self, number: u32) -> Result<PassedHeading, TypeFault>
         ensures { MatchResult result
             (λ copy. headed_of copy ≡ get_or self.now.headings number step.program_heading)
-            (λ why. why ≡ Memory) }
+            (λ why. why ≡ Memory the_refusal) }
     {
         match self.headings.get(number as usize) {
             None => Ok(PassedHeading::nothing(self.alloc)),
@@ -261,7 +260,7 @@ impl Typer {
     /// many formal ones.
     pub fn callee(&self, number: u32, count: usize, place: Place) -> Result<Callee, TypeFault>
         ensures found { FindsCallee (get_or self.now.headings number step.program_heading) place count result }
-        ensures memory { result ≡ Err Memory → IsOk (are_as_many place count
+        ensures memory { result ≡ Err (Memory the_refusal) → IsOk (are_as_many place count
             (length (get_or self.now.headings number step.program_heading).parameters)) }
     {
         let heading = self.headings.get(number as usize);

@@ -1,6 +1,7 @@
 ghost use Rattle.std.specs.Prelude.{◌≡◌, Ok, Err, IsOk, MatchResult, option_map};
 ghost use Rattle.types.specs.Forms.{form_of};
 ghost use Rattle.typing.specs.Steps.{refused, value_of};
+ghost use Rattle.memory.specs.Refused.{the_refusal};
 ghost use Rattle.typed_tree.specs.declared.fault.TypeFault.TheVariants.{Memory};
 ghost use Rattle.typing.specs.Denoters.{named_type};
 
@@ -32,7 +33,7 @@ impl Typer {
     #[tactic(auto, unfolding(crate::specs::Steps::add_type))]
     pub fn add_type(&mut self, place: Place, form: TypeForm) -> Result<TypeId, TypeFault>
         ensures taken { Takes (step.add_type place (form_of form) self.old) result self.new }
-        ensures memory { result ≡ Err Memory → IsOk (step.add_type place (form_of form) self.old) }
+        ensures memory { result ≡ Err (Memory the_refusal) → IsOk (step.add_type place (form_of form) self.old) }
     {
         self.types.add(form).map_err(|rule| refused(rule, place))
     }
@@ -123,7 +124,7 @@ fn refused(rule: TypeRefusal, place: Place) -> TypeFault
     ensures { result ≡ refused rule place }
 {
     match rule {
-        TypeRefusal::Memory => TypeFault::Memory,
+        TypeRefusal::Memory(refused) => TypeFault::Memory(refused),
         TypeRefusal::FirstAboveLast => TypeFault::FirstAboveLast(place),
         TypeRefusal::TooManyCells => TypeFault::TooManyCells(place),
         TypeRefusal::MembersOutOfRange => TypeFault::MembersOutOfRange(place),
@@ -140,6 +141,6 @@ fn named_type(name: &Name, answer: Result<Denotation, ScopeFault>) -> Result<Typ
         Err(ScopeFault::UsedBeforeDeclared) => Err(TypeFault::UsedBeforeDeclared(name.place)),
         Err(ScopeFault::NotDeclared) => Err(TypeFault::NotDeclared(name.place)),
         Err(ScopeFault::DeclaredTwice) => Err(TypeFault::DeclaredTwice(name.place)),
-        Err(ScopeFault::Memory) => Err(TypeFault::Memory),
+        Err(ScopeFault::Memory(refused)) => Err(TypeFault::Memory(refused)),
     }
 }

@@ -2,6 +2,7 @@ ghost use Rattle.std.specs.Prelude.{◌≡◌, ◌⊎◌, Ok, Err, MatchResult, 
 ghost use Rattle.std.specs.List.{list_any};
 ghost use Rattle.std.specs.Cmp.Lexicographic.{pointwise};
 ghost use Rattle.types.specs.Forms.{field_form};
+ghost use Rattle.memory.specs.Refused.{the_refusal};
 ghost use Rattle.typed_tree.specs.declared.fault.TypeFault.TheVariants.{Memory};
 ghost use Rattle.typing.specs.Denoters.{named_fields};
 
@@ -21,7 +22,7 @@ pub fn add_fields(
 ) -> Result<(), TypeFault>
     ensures { MatchResult result
         (λ _. named_fields (map field_form fields.old.items) type_id names.now ≡ Ok (map field_form fields.new.items))
-        (λ why. (why ≡ Memory) ⊎ (named_fields (map field_form fields.old.items) type_id names.now ≡ Err why)) }
+        (λ why. (why ≡ Memory the_refusal) ⊎ (named_fields (map field_form fields.old.items) type_id names.now ≡ Err why)) }
 {
     for written in names {
         let name = folded(alloc, written.text)?;

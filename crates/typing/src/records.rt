@@ -3,6 +3,7 @@ ghost use Rattle.std.specs.Prelude.{◌≡◌, ◌⊎◌, ◌++◌, [], IfOk, Ma
 ghost use Rattle.std.specs.Prelude.{flat_map, length, map, slice_get};
 ghost use Rattle.types.specs.Forms.{field_form};
 ghost use Rattle.types.specs.Types.{form_at};
+ghost use Rattle.memory.specs.Refused.{the_refusal};
 ghost use Rattle.typed_tree.specs.declared.fault.TypeFault.TheVariants.{Memory};
 ghost use Rattle.typing.specs.Steps.{definition_of, field_definitions};
 ghost use Rattle.typing.specs.View.{definition, definition_or_none};
@@ -84,7 +85,7 @@ impl Typer {
         ensures { MatchResult result
             (λ made. spec.field_or_none place slot selector type_id (slice_get self.now.records slot)
             ≡ Ok (denoted_of made))
-            (λ why. (why ≡ Memory)
+            (λ why. (why ≡ Memory the_refusal)
             ⊎ (spec.field_or_none place slot selector type_id (slice_get self.now.records slot) ≡ Err why)) }
     {
         let Some(record) = self.records.get(slot as usize) else {
@@ -119,9 +120,7 @@ impl Typer {
         }
         let slot = self.records.len() as u32;
         let fields = field_definitions(self.alloc, &self.types, place, opened.type_id, slot)?;
-        self.scopes
-            .open_fields(self.alloc, &fields)
-            .map_err(|_| TypeFault::Memory)?;
+        self.scopes.open_fields(self.alloc, &fields)?;
         self.records.push(opened)?;
         Ok(())
     }
@@ -147,7 +146,7 @@ fn field_definitions(
     ensures { MatchResult result
         (λ made. field_definitions types.now place id slot (form_at types.now id)
         ≡ Ok (map definition made.items))
-        (λ why. (why ≡ Memory) ⊎ (field_definitions types.now place id slot (form_at types.now id) ≡ Err why)) }
+        (λ why. (why ≡ Memory the_refusal) ⊎ (field_definitions types.now place id slot (form_at types.now id) ≡ Err why)) }
 {
     match types.form(id) {
         Some(TypeForm::Record { fields, .. }) => {

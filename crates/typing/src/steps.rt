@@ -2,6 +2,7 @@ ghost use Rattle.std.specs.Prelude.{◌≡◌, [], Ok, Err, IfErr, IsOk, MatchRe
 ghost use Rattle.std.specs.List.{list_any};
 ghost use Rattle.scopes.specs.Scopes.{Knows, region_of};
 ghost use Rattle.typing.specs.Names.{folded};
+ghost use Rattle.memory.specs.Refused.{the_refusal};
 ghost use Rattle.typed_tree.specs.declared.fault.TypeFault.TheVariants.{Memory};
 ghost use Rattle.typing.specs.Passing.{after};
 
@@ -55,7 +56,7 @@ impl Typer {
     #[tactic(auto, using(crate::proofs::Rows::one_site_more), unfolding(crate::specs::Steps::site))]
     pub fn site(&mut self, kind: SiteKind, place: Place) -> Result<u32, TypeFault>
         ensures taken { Takes (spec.site kind place self.old) result self.new }
-        ensures memory { result ≡ Err Memory → IsOk (spec.site kind place self.old) }
+        ensures memory { result ≡ Err (Memory the_refusal) → IsOk (spec.site kind place self.old) }
     {
         if self.sites.len() >= MOST_SITES {
             return Err(TypeFault::TooMany(place));
@@ -70,7 +71,7 @@ impl Typer {
     #[tactic(auto, using(crate::proofs::Rows::one_point_more), unfolding(crate::specs::Steps::point))]
     pub fn point(&mut self, place: Place) -> Result<u32, TypeFault>
         ensures taken { Takes (spec.point place self.old) result self.new }
-        ensures memory { result ≡ Err Memory → IsOk (spec.point place self.old) }
+        ensures memory { result ≡ Err (Memory the_refusal) → IsOk (spec.point place self.old) }
     {
         if self.points.len() >= MOST_SITES {
             return Err(TypeFault::TooMany(place));
@@ -97,7 +98,7 @@ impl Typer {
     #[tactic(auto, unfolding(crate::specs::Steps::may_change))]
     pub fn may_change(&mut self, place: Place, root: u32) -> Result<(), TypeFault>
         ensures taken { Takes (spec.may_change place root self.old) result self.new }
-        ensures memory { result ≡ Err Memory → IsOk (spec.may_change place root self.old) }
+        ensures memory { result ≡ Err (Memory the_refusal) → IsOk (spec.may_change place root self.old) }
     {
         if self.is_control(root) {
             return Err(TypeFault::Threatened(place));
@@ -114,7 +115,7 @@ impl Typer {
 
     // A variable is no control variable from here on, if it is one of a block round this block.
     fn threaten(&mut self, root: u32) -> Result<(), TypeFault>
-        ensures { MatchResult result (λ _. self.new ≡ spec.with_threatened root self.old) (λ why. why ≡ Memory) }
+        ensures { MatchResult result (λ _. self.new ≡ spec.with_threatened root self.old) (λ why. why ≡ Memory the_refusal) }
     {
         if !self.is_own(root) {
             self.threatened.insert(root)?;
@@ -179,9 +180,8 @@ impl Typer {
     pub fn open_required(&mut self) -> Result<(), TypeFault>
         ensures { Takes (spec.open_required self.old) result self.new }
     {
-        self.scopes
-            .open_defined(self.alloc, &REQUIRED)
-            .map_err(|_| TypeFault::Memory)
+        self.scopes.open_defined(self.alloc, &REQUIRED)?;
+        Ok(())
     }
 
     /// Begins the region of a block that defines these names, which are in small letters.
@@ -189,9 +189,8 @@ impl Typer {
     pub fn open_block(&mut self, names: &[Vec<u8>]) -> Result<(), TypeFault>
         ensures { Takes (spec.open_block (map (λ name. name.items) names.now) self.old) result self.new }
     {
-        self.scopes
-            .open(self.alloc, names)
-            .map_err(|_| TypeFault::Memory)
+        self.scopes.open(self.alloc, names)?;
+        Ok(())
     }
 
     /// The innermost region ends.

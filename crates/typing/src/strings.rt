@@ -1,5 +1,6 @@
 ghost use Rattle.std.specs.Prelude.{◌≡◌, ◌⊎◌, [], Ok, Err, Some, None, IfOk, MatchOption, MatchResult, option_map};
 ghost use Rattle.std.specs.Prelude.{if◌then◌else◌};
+ghost use Rattle.memory.specs.Refused.{the_refusal};
 ghost use Rattle.typed_tree.specs.declared.fault.TypeFault.TheVariants.{Memory};
 ghost use Rattle.std.specs.List.{list_all};
 ghost use Rattle.typed_tree.specs.WellFormed.{is_character};
@@ -91,7 +92,7 @@ impl Typer {
 pub fn characters(alloc: Global, place: Place, text: &[u8]) -> Result<Vec<u8>, TypeFault>
     ensures { MatchResult result
         (λ made. string_characters place text.now ≡ Ok made.items)
-        (λ why. (why ≡ Memory) ⊎ (string_characters place text.now ≡ Err why)) }
+        (λ why. (why ≡ Memory the_refusal) ⊎ (string_characters place text.now ≡ Err why)) }
 {
     let characters = undoubled(alloc, text)?.ok_or(TypeFault::Mismatch(place))?;
     if characters.is_empty() || !are_of_char(&characters) {

@@ -1,5 +1,6 @@
 ghost use Rattle.std.specs.Prelude.{◌≡◌, ◌≤◌, MatchResult, map, vec_len};
 ghost use Rattle.typed_tree.specs.Ids.{AreInOrder, ArePointsInOrder};
+ghost use Rattle.memory.specs.Refused.{the_refusal};
 ghost use Rattle.typed_tree.specs.declared.fault.TypeFault.TheVariants.{Memory};
 ghost use Rattle.typing.specs.Passing.{Passed};
 ghost use Rattle.typing.specs.Sound.{stands};
@@ -105,7 +106,7 @@ impl Typer {
 
     /// What is known before a program, whose first token that the tree tells stands at `start`.
     pub fn new(alloc: Global, start: Place) -> Result<Typer, TypeFault>
-        ensures { MatchResult result (λ typer. typer ≡ begins start) (λ fault. fault ≡ Memory) }
+        ensures { MatchResult result (λ typer. typer ≡ begins start) (λ fault. fault ≡ Memory the_refusal) }
     {
         let mut headings = Vec::new(alloc);
         headings.push(PassedHeading::nothing(alloc))?;

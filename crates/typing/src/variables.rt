@@ -1,4 +1,5 @@
 ghost use Rattle.scopes.specs.Scopes.{Knows};
+ghost use Rattle.memory.specs.Refused.{the_refusal};
 ghost use Rattle.typed_tree.specs.declared.fault.TypeFault.TheVariants.{Memory};
 ghost use Rattle.typing.specs.Names.{folded};
 
@@ -92,7 +93,7 @@ impl Typer {
         type_id: TypeId,
     ) -> Result<(), TypeFault>
         ensures taken { Takes (step.reserve place block kind type_id self.old) result self.new }
-        ensures memory { result ≡ Err Memory → IsOk (step.reserve place block kind type_id self.old) }
+        ensures memory { result ≡ Err (Memory the_refusal) → IsOk (step.reserve place block kind type_id self.old) }
     {
         let cells = self.types.cells(type_id);
         if cells > MOST_CELLS - self.enclosing.cells {

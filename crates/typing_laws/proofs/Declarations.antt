@@ -85,7 +85,7 @@ pub named_is : (name : Name) (r : Result Denotation ScopeFault) (type_id : TypeI
     → r ≡ Ok (denotes.TypeName type_id)
 named_is name (Ok (denotes.TypeName id)) type_id is = cc
 named_is name (Ok other) type_id is = absurd cc
-named_is name (Err scope.Memory) type_id is = absurd cc
+named_is name (Err (scope.Memory _)) type_id is = absurd cc
 named_is name (Err scope.DeclaredTwice) type_id is = absurd cc
 named_is name (Err scope.UsedBeforeDeclared) type_id is = absurd cc
 named_is name (Err scope.NotDeclared) type_id is = absurd cc

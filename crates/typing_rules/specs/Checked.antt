@@ -1,5 +1,6 @@
 -- An answer, or the first broken rule. It says nothing of what the rules are.
 use Rattle.std.specs.Prelude.{Result, Ok, Err, Bool, true, false, Option, Some, None}
+use Rattle.memory.specs.Refused.{the_refusal}
 use Rattle.place.specs.declared.Place.{Place}
 use Rattle.scopes.specs.declared.fault.ScopeFault.{ScopeFault}
 use Rattle.scopes.specs.declared.fault.ScopeFault.TheVariants as scope
@@ -25,7 +26,7 @@ or_mismatch place None = Err (fault.Mismatch place)
 
 -- a fault of the scopes, at its place
 abbrev pub placed : ScopeFault → Place → TypeFault
-placed scope.Memory place = fault.Memory
+placed (scope.Memory _) place = fault.Memory the_refusal
 placed scope.DeclaredTwice place = fault.DeclaredTwice place
 placed scope.UsedBeforeDeclared place = fault.UsedBeforeDeclared place
 placed scope.NotDeclared place = fault.NotDeclared place

@@ -15,7 +15,7 @@ pub fn placed<T>(answer: Result<T, ScopeFault>, place: Place) -> Result<T, TypeF
 {
     match answer {
         Ok(answer) => Ok(answer),
-        Err(ScopeFault::Memory) => Err(TypeFault::Memory),
+        Err(ScopeFault::Memory(refused)) => Err(TypeFault::Memory(refused)),
         Err(ScopeFault::DeclaredTwice) => Err(TypeFault::DeclaredTwice(place)),
         Err(ScopeFault::UsedBeforeDeclared) => Err(TypeFault::UsedBeforeDeclared(place)),
         Err(ScopeFault::NotDeclared) => Err(TypeFault::NotDeclared(place)),

@@ -1,5 +1,6 @@
 use Rattle.std.proofs.Common.{rules, Err, ◌⊎◌, ◌≡◌, ◌+◌, ◌≤◌, [], ◌∷◌, ◌++◌, drop, length, map, min, ap, ap₂, subst, sym, ◌∙◌, length-append, arith}
 use Rattle.std.proofs.lemmas.Slice.Zip.{zip_turn, zip_end}
+use Rattle.memory.specs.Refused.{the_refusal}
 use denote.Param.Weighed.{most, at_most}
 use Rattle.syntax_tree.specs.declared.TypeDenoter.{size-TypeDenoter, the_lemmas}
 use Rattle.types.specs.Forms.{field_form}
@@ -202,7 +203,7 @@ grouped_fields-returns-in_err-add_fields t c =
     let fields = map field_form here.fields.items in
     let why = c.in_err-add_fields.field-0.0 in
     let id = c.in_ok-type_id.type_id in
-    let twice = subst (λ l. (why ≡ Memory) ⊎ (named_fields fields id l ≡ Err why)) c.deref.ensures.value c.in_err-add_fields.ensures in
+    let twice = subst (λ l. (why ≡ Memory the_refusal) ⊎ (named_fields fields id l ≡ Err why)) c.deref.ensures.value c.in_err-add_fields.ensures in
     let stops = group_names_stop denoted_type rows denoters c.args.typer.now i row denoter fields here.typer turn.0 (turn.2 row) turn.1
     (turn.3 denoter) here.invariant.left id c.denoted_type.new.typer c.in_ok-type_id.ensures why twice in
     search (rules, stops)

@@ -1,4 +1,5 @@
 use Rattle.std.proofs.Common.{rules, ◌≡◌, [], ◌∷◌, ◌++◌, map, Some, None, Ok, Err, true, false, sym, ap, subst, ◌∙◌}
+use Rattle.memory.specs.Refused.{the_refusal}
 use Rattle.lexer.specs.declared.token.Kind.TheVariants as kind
 use Rattle.lexer.specs.declared.token.Symbol.TheVariants as symbol
 use Rattle.reading.specs.declared.refusal.Refusal.TheVariants.{Memory}
@@ -46,7 +47,7 @@ parenthesized-returns t c =
 
 pub links-returns-in_err-operand : goal.links-returns-in_err-operand
 links-returns-in_err-operand t c =
-    let stops : ¬ (c.in_err-operand.field-0.0 ≡ Memory)
+    let stops : ¬ (c.in_err-operand.field-0.0 ≡ Memory the_refusal)
     → level_spec.links c.args.level c.args.levels c.args.cursor.now.rest.now ≡ Err (c.in_err-operand.field-0.0, c.operand.new.cursor.rest.now) =
     λ no. links_stop c.args.level c.args.levels c.loop-operator.cursor.rest.now c.in-Some.operator c.in-Some.place c.take_operator.new.self.rest.now
     (cc) c.args.cursor.now.rest.now c.loop-operator.links.items c.loop-operator.invariant c.in_err-operand.field-0.0 c.operand.new.cursor.rest.now
@@ -114,7 +115,7 @@ selectors-loop-indexes-init t c =
 
 pub selectors-returns-in_err-selector : goal.selectors-returns-in_err-selector
 selectors-returns-in_err-selector t c =
-    let stops : ¬ (c.in_err-selector.field-0.0 ≡ Memory)
+    let stops : ¬ (c.in_err-selector.field-0.0 ≡ Memory the_refusal)
     → spec.selectors (expression_below c.args.levels) c.args.cursor.now.rest.now ≡ Err (c.in_err-selector.field-0.0, c.selector.new.cursor.rest.now) =
     λ other. selectors_stop (expression_below c.args.levels) c.args.cursor.now.rest.now c.loop-indexes.selectors.items c.loop-indexes.indexes.items
     c.selector.new.indexes.items c.loop-indexes.within c.loop-indexes.cursor.rest.now c.selector.new.cursor c.loop-indexes.invariant
@@ -159,7 +160,7 @@ pub member_list-returns-in_err-put : goal.member_list-returns-in_err-put
 member_list-returns-in_err-put t c =
     let part = spec.member (expression_below c.args.levels) in
     let here = c.loop-members.cursor.rest.now in
-    let stops : ¬ (c.in_err-put.field-0.0 ≡ Memory)
+    let stops : ¬ (c.in_err-put.field-0.0 ≡ Memory the_refusal)
     → separated symbol.Comma part c.args.cursor.now.rest.now ≡ Err (c.in_err-put.field-0.0, c.member.new.cursor.rest.now) =
     λ other. members_stop part c.loop-members.members.items c.loop-members.designators.items c.loop-members.invariant _
     (no_member (part here) c.member.new.cursor c.loop-members.members.items c.member.new.members.items c.loop-members.designators.items
@@ -199,7 +200,7 @@ member_list-returns-in_default t c =
 
 pub actual_list-returns-in_err-put : goal.actual_list-returns-in_err-put
 actual_list-returns-in_err-put t c =
-    let stops : ¬ (c.in_err-put.field-0.0 ≡ Memory)
+    let stops : ¬ (c.in_err-put.field-0.0 ≡ Memory the_refusal)
     → separated symbol.Comma (spec.actual (expression_below c.args.levels)) c.args.cursor.now.rest.now
     ≡ Err (c.in_err-put.field-0.0, c.actual.new.cursor.rest.now) =
     λ other. parts_stop symbol.Comma (spec.actual (expression_below c.args.levels)) c.loop-actuals.invariant _

@@ -1,4 +1,5 @@
 use Rattle.std.proofs.Common.{◌≡◌, rules, Ok, Err, sym, ap, ◌∙◌}
+use Rattle.memory.specs.Refused.{the_refusal}
 use Rattle.reading.specs.declared.refusal.Refusal.TheVariants.{Memory}
 use Rattle.reading.specs.Declarations as spec
 use Rattle.reading.specs.Trees.{routine_outline}
@@ -33,7 +34,7 @@ pub routines-returns-in_err-put : goal.routines-returns-in_err-put
 routines-returns-in_err-put t c =
     let why = c.in_err-put.field-0.0 in
     let left = c.routine.new.cursor in
-    let stops : (¬ (why ≡ Memory)) → spec.routines (block_below c.args.levels) c.args.cursor.now.rest.now ≡ Err (why, left.rest.now) =
+    let stops : (¬ (why ≡ Memory the_refusal)) → spec.routines (block_below c.args.levels) c.args.cursor.now.rest.now ≡ Err (why, left.rest.now) =
     many_stop spec.begins_routine (spec.routine (block_below c.args.levels)) routine_outline c.loop-alloc.cursor.rest.now c.routine.result left
     c.loop-alloc.routines.items c.put.new.list.items c.routine.ensures c.loop-alloc.invariant (sym c.begins_routine.ensures ∙ c.loop-alloc-test.true) why
     c.in_err-put.ensures in

@@ -1,4 +1,5 @@
 use Rattle.std.proofs.Common.{◌≡◌, rules, Some, Ok, Err, sym, ap, subst, ◌∙◌}
+use Rattle.memory.specs.Refused.{the_refusal}
 use Rattle.lexer.specs.declared.token.Kind.TheVariants as kind
 use Rattle.lexer.specs.declared.token.Symbol.TheVariants as symbol
 use Rattle.lexer.specs.declared.token.Word.{Word}
@@ -65,7 +66,7 @@ pub indexes-returns-in_err-put : goal.indexes-returns-in_err-put
 indexes-returns-in_err-put t c =
     let why = c.in_err-put.field-0.0 in
     let left = c.denoter.new.cursor in
-    let stops : (¬ (why ≡ Memory)) → separated symbol.Comma (spec.denoter c.args.levels) c.args.cursor.now.rest.now ≡ Err (why, left.rest.now) =
+    let stops : (¬ (why ≡ Memory the_refusal)) → separated symbol.Comma (spec.denoter c.args.levels) c.args.cursor.now.rest.now ≡ Err (why, left.rest.now) =
     listed_stops denoter_outline symbol.Comma (spec.denoter c.args.levels) c.loop-indexes.cursor.rest.now c.denoter.result left c.loop-indexes.indexes.items
     c.put.new.list.items c.denoter.ensures c.loop-indexes.invariant why c.in_err-put.ensures in
     search rules
@@ -95,7 +96,7 @@ unfolding spec.fields
 fields-returns-in_err-put t c =
     let why = c.in_err-put.field-0.0 in
     let left = c.field_names.new.cursor in
-    let stops : (¬ (why ≡ Memory)) → parts_to_end (spec.fields (spec.denoter c.args.levels)) c.args.cursor.now.rest.now ≡ Err (why, left.rest.now) =
+    let stops : (¬ (why ≡ Memory the_refusal)) → parts_to_end (spec.fields (spec.denoter c.args.levels)) c.args.cursor.now.rest.now ≡ Err (why, left.rest.now) =
     head_stops names_look denoter_outline form.fields spec.field_names (spec.denoter c.args.levels) fields_look c.loop-denoters.cursor.rest.now
     c.loop-denoters.names.items c.loop-denoters.denoters.items c.loop-denoters.invariant c.field_names.result left c.put.new.list.items
     c.field_names.ensures why c.in_err-put.ensures in
@@ -106,7 +107,7 @@ unfolding spec.fields
 fields-returns-in_err-put-2 t c =
     let why = c.in_err-put-2.field-0.0 in
     let left = c.denoter.new.cursor in
-    let stops : (¬ (why ≡ Memory)) → parts_to_end (spec.fields (spec.denoter c.args.levels)) c.args.cursor.now.rest.now ≡ Err (why, left.rest.now) =
+    let stops : (¬ (why ≡ Memory the_refusal)) → parts_to_end (spec.fields (spec.denoter c.args.levels)) c.args.cursor.now.rest.now ≡ Err (why, left.rest.now) =
     inner_stops names_look denoter_outline form.fields spec.field_names (spec.denoter c.args.levels) fields_look c.loop-denoters.cursor.rest.now
     c.loop-denoters.names.items c.loop-denoters.denoters.items c.loop-denoters.invariant c.field_names.result c.field_names.new.cursor c.put.new.list.items
     c.field_names.ensures c.in_ok-put.ensures c.denoter.result left c.put-in-loop-denoters.new.list.items c.denoter.ensures why c.in_err-put-2.ensures in
@@ -117,7 +118,7 @@ unfolding spec.fields
 fields-returns-in_err-semicolon t c =
     let why = c.in_err-semicolon.field-0.0 in
     let left = c.behind_arm.new.cursor in
-    let stops : (¬ (why ≡ Memory)) → parts_to_end (spec.fields (spec.denoter c.args.levels)) c.args.cursor.now.rest.now ≡ Err (why, left.rest.now) =
+    let stops : (¬ (why ≡ Memory the_refusal)) → parts_to_end (spec.fields (spec.denoter c.args.levels)) c.args.cursor.now.rest.now ≡ Err (why, left.rest.now) =
     λ m. behind_stops names_look denoter_outline form.fields spec.field_names (spec.denoter c.args.levels) fields_look c.loop-denoters.cursor.rest.now
     c.loop-denoters.names.items c.loop-denoters.denoters.items c.loop-denoters.invariant c.field_names.result c.field_names.new.cursor c.put.new.list.items
     c.field_names.ensures c.in_ok-put.ensures c.denoter.result c.denoter.new.cursor c.put-in-loop-denoters.new.list.items c.denoter.ensures

@@ -1,4 +1,5 @@
 use Rattle.std.proofs.Common.{◌≡◌, rules, Err, sym, ◌∙◌}
+use Rattle.memory.specs.Refused.{the_refusal}
 use Rattle.lexer.specs.declared.token.Kind.TheVariants as kind
 use Rattle.reading.specs.declared.refusal.Refusal.TheVariants.{Memory}
 use Rattle.reading.specs.Declarations as spec
@@ -20,7 +21,7 @@ pub returns-in_err-put : goal.returns-in_err-put
 returns-in_err-put g c =
     let why = c.in_err-put.field-0.0 in
     let left = c.read.new.cursor in
-    let stops : (¬ (why ≡ Memory)) → spec.part c.args.word (g.I.Item.rule c.args.levels) c.args.cursor.now.rest.now ≡ Err (why, left.rest.now) =
+    let stops : (¬ (why ≡ Memory the_refusal)) → spec.part c.args.word (g.I.Item.rule c.args.levels) c.args.cursor.now.rest.now ≡ Err (why, left.rest.now) =
     some_stop (is_kind kind.Identifier) (g.I.Item.rule c.args.levels) g.I.Item.look c.loop-found.cursor.rest.now c.read.result left c.loop-found.found.items
     c.put.new.list.items c.read.ensures c.loop-found.invariant why c.in_err-put.ensures in
     search rules

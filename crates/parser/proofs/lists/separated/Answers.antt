@@ -1,4 +1,5 @@
 use Rattle.std.proofs.Common.{◌≡◌, rules, Err}
+use Rattle.memory.specs.Refused.{the_refusal}
 use Rattle.reading.specs.declared.refusal.Refusal.TheVariants.{Memory}
 use Rattle.reading.specs.Reading as spec
 use Rattle.parser.proofs.Listed.{listed_begins, listed_goes, listed_fewer, listed_ends, listed_stops, never_more}
@@ -11,7 +12,7 @@ pub returns-in_err-put : goal.returns-in_err-put
 returns-in_err-put g c =
     let why = c.in_err-put.field-0.0 in
     let left = c.read.new.cursor in
-    let stops : (¬ (why ≡ Memory)) → spec.separated c.args.symbol g.P.Part.rule c.args.cursor.now.rest.now ≡ Err (why, left.rest.now) =
+    let stops : (¬ (why ≡ Memory the_refusal)) → spec.separated c.args.symbol g.P.Part.rule c.args.cursor.now.rest.now ≡ Err (why, left.rest.now) =
     listed_stops g.P.Part.look c.args.symbol g.P.Part.rule c.loop-found.cursor.rest.now c.read.result left c.loop-found.found.items
     c.put.new.list.items c.read.ensures c.loop-found.invariant why c.in_err-put.ensures in
     search rules

@@ -1,4 +1,5 @@
 use Rattle.std.proofs.Common.{rules, ◌≡◌, map, Ok, Err, ◌∙◌}
+use Rattle.memory.specs.Refused.{the_refusal}
 use Rattle.lexer.specs.declared.token.Kind.TheVariants as kind
 use Rattle.lexer.specs.declared.token.Symbol.TheVariants as symbol
 use Rattle.reading.specs.declared.refusal.Refusal.TheVariants.{Memory}
@@ -16,7 +17,7 @@ returns-in_err-block c =
     let why = c.in_err-block.field-0.0 in
     let names = map name_outline c.in_ok-parameters.parameters.items in
     let behind = c.followed_by.new.self.rest.now in
-    let stops : (¬ (why ≡ Memory)) → spec.program most c.args.cursor.now.rest.now ≡ Err (why, c.ended.new.cursor.rest.now) =
+    let stops : (¬ (why ≡ Memory the_refusal)) → spec.program most c.args.cursor.now.rest.now ≡ Err (why, c.ended.new.cursor.rest.now) =
     λ m. program_is most c.args.cursor.now.rest.now c.expect_word.new.self.rest.now c.expect_name.new.self.rest.now behind c.in_ok-expect_word.field-0
     (identifier c.in_ok-name.name) names c.in_ok-expect_word.ensures c.in_ok-name.ensures
     (followed_makes (λ found. map name_outline found.items) (spec.parameters c.expect_name.new.self.rest.now) c.parameters-parameters.result

@@ -1,4 +1,5 @@
 use Rattle.std.proofs.Common.{rules, ◌≡◌, Bool, Option, Some, Ok, Err, sym, ap, subst, ◌∙◌}
+use Rattle.memory.specs.Refused.{the_refusal}
 use Rattle.lexer.specs.declared.token.Kind.TheVariants as kind
 use Rattle.lexer.specs.declared.token.Symbol.TheVariants as symbol
 use Rattle.lexer.specs.declared.token.Word.TheVariants as word
@@ -66,7 +67,7 @@ pub statements-returns-in_err-put : goal.statements-returns-in_err-put
 statements-returns-in_err-put t c =
     let why = c.in_err-put.field-0.0 in
     let left = c.statement.new.cursor in
-    let stops : (¬ (why ≡ Memory)) → separated symbol.Semicolon (spec.statement c.args.levels) c.args.cursor.now.rest.now ≡ Err (why, left.rest.now) =
+    let stops : (¬ (why ≡ Memory the_refusal)) → separated symbol.Semicolon (spec.statement c.args.levels) c.args.cursor.now.rest.now ≡ Err (why, left.rest.now) =
     listed_stops stmt_outline symbol.Semicolon (spec.statement c.args.levels) c.loop-statements.cursor.rest.now c.statement.result c.statement.new.cursor
     c.loop-statements.statements.items c.put.new.list.items c.statement.ensures c.loop-statements.invariant why c.in_err-put.ensures in
     search rules
@@ -97,7 +98,7 @@ unfolding spec.arm
 arms-returns-in_err-put t c =
     let why = c.in_err-put.field-0.0 in
     let left = c.row.new.cursor in
-    let stops : (¬ (why ≡ Memory)) → spec.parts_to_end (spec.arm c.args.levels (spec.statement c.args.levels)) c.args.cursor.now.rest.now
+    let stops : (¬ (why ≡ Memory the_refusal)) → spec.parts_to_end (spec.arm c.args.levels (spec.statement c.args.levels)) c.args.cursor.now.rest.now
     ≡ Err (why, left.rest.now) =
     head_stops constants_outlines stmt_outline form.arm spec.row (spec.statement c.args.levels) arms_outlines c.loop-arms.cursor.rest.now
     c.loop-arms.constants.items c.loop-arms.arms.items c.loop-arms.invariant c.row.result left
@@ -109,7 +110,7 @@ unfolding spec.arm
 arms-returns-in_err-put-2 t c =
     let why = c.in_err-put-2.field-0.0 in
     let left = c.statement.new.cursor in
-    let stops : (¬ (why ≡ Memory)) → spec.parts_to_end (spec.arm c.args.levels (spec.statement c.args.levels)) c.args.cursor.now.rest.now
+    let stops : (¬ (why ≡ Memory the_refusal)) → spec.parts_to_end (spec.arm c.args.levels (spec.statement c.args.levels)) c.args.cursor.now.rest.now
     ≡ Err (why, left.rest.now) =
     inner_stops constants_outlines stmt_outline form.arm spec.row (spec.statement c.args.levels) arms_outlines c.loop-arms.cursor.rest.now
     c.loop-arms.constants.items c.loop-arms.arms.items c.loop-arms.invariant c.row.result
@@ -122,7 +123,7 @@ unfolding spec.arm
 arms-returns-in_err-semicolon t c =
     let why = c.in_err-semicolon.field-0.0 in
     let left = c.behind_arm.new.cursor in
-    let stops : (¬ (why ≡ Memory)) → spec.parts_to_end (spec.arm c.args.levels (spec.statement c.args.levels)) c.args.cursor.now.rest.now
+    let stops : (¬ (why ≡ Memory the_refusal)) → spec.parts_to_end (spec.arm c.args.levels (spec.statement c.args.levels)) c.args.cursor.now.rest.now
     ≡ Err (why, left.rest.now) =
     λ m. behind_stops constants_outlines stmt_outline form.arm spec.row (spec.statement c.args.levels) arms_outlines c.loop-arms.cursor.rest.now
     c.loop-arms.constants.items c.loop-arms.arms.items c.loop-arms.invariant c.row.result

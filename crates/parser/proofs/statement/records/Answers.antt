@@ -1,4 +1,5 @@
 use Rattle.std.proofs.Common.{rules, ◌≡◌, Err}
+use Rattle.memory.specs.Refused.{the_refusal}
 use Rattle.lexer.specs.declared.token.Symbol.TheVariants as symbol
 use Rattle.reading.specs.declared.refusal.Refusal.TheVariants.{Memory}
 use Rattle.reading.specs.Reading.{separated}
@@ -12,7 +13,7 @@ pub returns-in_err-put : goal.returns-in_err-put
 returns-in_err-put c =
     let why = c.in_err-put.field-0.0 in
     let left = c.record_variable.new.cursor in
-    let stops : (¬ (why ≡ Memory)) → separated symbol.Comma (record_variable c.args.levels) c.args.cursor.now.rest.now ≡ Err (why, left.rest.now) =
+    let stops : (¬ (why ≡ Memory the_refusal)) → separated symbol.Comma (record_variable c.args.levels) c.args.cursor.now.rest.now ≡ Err (why, left.rest.now) =
     listed_stops record_outline symbol.Comma (record_variable c.args.levels) c.loop-records.cursor.rest.now c.record_variable.result left
     c.loop-records.records.items c.put.new.list.items c.record_variable.ensures c.loop-records.invariant why c.in_err-put.ensures in
     search rules
