@@ -1,27 +1,14 @@
 use crate::sources::{resolved, tree_of};
-use code_generator::fault::GenFault;
 use code_generator::generate::generate;
 use code_generator::laws;
-use pcode_assembler::code::Code;
 use std::alloc::Global;
 use std::test::Fail;
 use test_words::machines::run_told;
 use test_words::rows::all_hold;
-use typed_tree::fault::TypeFault;
-use typed_tree::tree::Tree;
-
-/// The code of a program. Each program of a test has a typed tree: one without would count as one for which there is no
-/// memory.
-fn generated(alloc: Global, tree: Result<Tree, TypeFault>) -> Result<Code, GenFault> {
-    match tree {
-        Ok(tree) => generate(alloc, &tree),
-        Err(_) => Err(GenFault::Memory),
-    }
-}
 
 /// What the run of a program with two variables writes in a store of so many cells, and behind it how it stops.
 fn code_run_told(alloc: Global, row: &(&str, u32)) -> Result<String, Fail> {
-    let code = generated(alloc, tree_of(alloc, "a, b: integer", row.0))?;
+    let code = generate(alloc, &tree_of(alloc, "a, b: integer", row.0)?)?;
     run_told(alloc, &code, row.1.max(1).min(9), 1000)
 }
 
@@ -47,7 +34,7 @@ fn passing_run_told(alloc: Global, row: &(&str, u32)) -> Result<String, Fail> {
     let source = format!(in alloc;
         "program p; type t = {denoter}; var r: t; procedure q(var x: t); begin end; begin q(r) end."
     )?;
-    let code = generated(alloc, resolved(alloc, source.as_str()))?;
+    let code = generate(alloc, &resolved(alloc, source.as_str())?)?;
     run_told(alloc, &code, row.1.max(1).min(11), 1000)
 }
 

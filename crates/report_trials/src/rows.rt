@@ -192,7 +192,14 @@ fn every_stop_has_its_line(rt: HostRuntime) -> Result<(), Fail> {
 }
 
 #[test]
-fn want_of_memory_has_its_line(rt: HostRuntime) {
-    let (told, status) = fault_text(rt.alloc(), &Fault::Memory);
-    assert!(rt; told.as_slice() == b"no memory\n".as_slice() && status == 3);
+fn want_of_memory_has_its_line(rt: HostRuntime) -> Result<(), Fail> {
+    // More than there is.
+    match Vec::<u8>::with_capacity(rt.alloc(), usize::MAX) {
+        Ok(_) => Err(Fail::new("all memory is there")),
+        Err(refused) => {
+            let (told, status) = fault_text(rt.alloc(), &refused.into());
+            assert!(rt; told.as_slice() == b"no memory\n".as_slice() && status == 3);
+            Ok(())
+        }
+    }
 }

@@ -35,7 +35,7 @@ pub(crate) struct Ran {
     pub(crate) stop: Stop,
 }
 
-// Runs a code on an input. The writer is a vector, so it fails for want of memory alone.
+// Runs a code on an input. The writer is a vector, so only where memory ran out does the run stop as one that fails.
 pub(crate) fn run(
     alloc: Global,
     code: &Code,
@@ -49,9 +49,6 @@ pub(crate) fn run(
     let mut reader = Counted::new(input);
     let mut writer = Counted::new(Vec::new(alloc));
     let stop = machine.run(code, &mut reader, &mut writer, budget);
-    if matches!(stop, Stop::WriteFailed) {
-        return Err(Fault::Memory);
-    }
     Ok(Ran {
         output: writer.into_inner(),
         stop,
@@ -65,9 +62,6 @@ pub(crate) fn show(alloc: Global, source: &[u8], cells: u32, budget: u64) -> Res
     let mut reader = Counted::new(b"".as_slice());
     let mut writer = Counted::new(Vec::new(alloc));
     let (verdict, stop) = go(alloc, source, None, &mut reader, &mut writer, cells, budget)?;
-    if matches!(stop, Stop::WriteFailed) {
-        return Err(Fault::Memory);
-    }
     Ok(Shown {
         verdict,
         output: writer.into_inner(),
