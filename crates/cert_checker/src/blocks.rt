@@ -1,4 +1,4 @@
-ghost use Rattle.std.specs.Prelude.{◌≡◌, ◌≤◌, ◌^◌, IsOk, MatchResult, false, length, map};
+ghost use Rattle.std.specs.Prelude.{◌≡◌, ◌≤◌, ◌^◌, IsOk, MatchResult, length, map};
 ghost use Rattle.typed_tree.specs.Entries.{entries_of, entries_of_block};
 ghost use Rattle.typed_tree.specs.WellFormed.{IsWellFormed};
 ghost use Rattle.checker_state.specs.State.{of_types};

@@ -1,5 +1,5 @@
 -- What the checker did over an expression, as the definitions see it. It does not say what a walk is.
-use Rattle.std.specs.Prelude.{◌≡◌, ℕ, Bool, false, List, [], ◌∷◌, ◌++◌, Option, Some, None, map, slice_get}
+use Rattle.std.specs.Prelude.{◌≡◌, ℕ, Bool, List, [], ◌∷◌, ◌++◌, Option, Some, None, map, slice_get}
 use denote.Ref.{Bor}
 use Rattle.checker_expressions.specs.declared.gathering.Gathering.{Gathering as KeptGathering}
 use Rattle.typed_tree.specs.declared.tree.Block.{Block}

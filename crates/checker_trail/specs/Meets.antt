@@ -1,5 +1,5 @@
 -- Where two ways of the state of the program meet: the rows that are set, and what is known behind both.
-use Rattle.std.specs.Prelude.{None, ◌≡◌, ◌⊎◌, ℕ, List, [], ◌∷◌, false, length}
+use Rattle.std.specs.Prelude.{None, ◌≡◌, ◌⊎◌, ℕ, List, [], ◌∷◌, length}
 use Rattle.std.specs.Prelude.{slice_index_or}
 use Rattle.std.specs.Prelude.{Contains}
 use Rattle.checker_known.specs.declared.known.Row.{Row}

@@ -1,6 +1,6 @@
 -- How the state of the program changes: each change can be taken back, and stands on a trail until it is. It does not
 -- say which changes are made.
-use Rattle.std.specs.Prelude.{None, ◌≡◌, false, List, [], ◌∷◌, ◌++◌, ℕ}
+use Rattle.std.specs.Prelude.{None, ◌≡◌, List, [], ◌∷◌, ◌++◌, ℕ}
 use Rattle.std.specs.Prelude.{take, drop}
 use Rattle.typed_tree.specs.declared.tree.Tree.{Tree}
 use Rattle.checker_trail.specs.declared.state.State.{State as Kept}

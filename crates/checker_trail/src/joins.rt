@@ -54,7 +54,8 @@ impl<'a> State<'a> {
         self.go(other);
         let told = match self
             .known
-            .tell(self.alloc, self.table, &asked, &here, other) {
+            .tell(self.alloc, self.table, &asked, &here, other)
+        {
             Ok(told) => told,
             Err(error) => return self.run_short(error.into()),
         };
