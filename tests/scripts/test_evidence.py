@@ -1,5 +1,5 @@
-"""Want of memory is told with its evidence alone: a fault `Memory` carries the refusal of an allocation, and no code of
-the crates makes such a refusal of its own."""
+"""Want of memory is told with its evidence alone: a fault `Memory` carries the refusal of an allocation, and no code of the
+crates makes such a refusal of its own."""
 
 import glob
 import os
@@ -12,7 +12,7 @@ MADE = re.compile(
     r"\b(?:Ok|Err|Some)\(AllocError\)|\bAllocError\s*\.|[=(]\s*AllocError\s*[;,)]|\breturn AllocError\b"
     r"|^\s*AllocError\s*,?$|\{[^{}]*: AllocError\b[^{}]*\}|\bAllocFailed\s*\{"
 )
-# The refusals of the kit's own libraries that come with no error of the allocator: that of clap, and that of the system.
+# The refusals that come without an error of the allocator: that of clap, and that of the system.
 TOLD = re.compile(r"\bErrorKind::OutOfMemory =>")
 
 

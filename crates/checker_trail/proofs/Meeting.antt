@@ -1,5 +1,6 @@
 -- Where two ways meet: what is known row by row, and what is held, is what is known behind both.
-use Rattle.std.proofs.Common.{None, arith, ◌≡◌, ◌⊎◌, ⊎_elim, inl, inr, ◌∙◌, sym, ap, ap₂, refl, subst, ℕ, ℤ, zero, suc, ◌<◌, Bool, true, false, cond, ◌&&◌, ◌||◌}
+use Rattle.std.proofs.Common.{arith, ◌≡◌, ◌⊎◌, ⊎_elim, inl, inr, ◌∙◌, sym, ap, ap₂, refl, subst, ℕ, ℤ, zero, suc, ◌<◌, Bool, true, false, cond, ◌&&◌, ◌||◌}
+use Rattle.std.proofs.Common.{None}
 use Rattle.std.proofs.Common.{int_lt}
 use Rattle.std.proofs.Common.{List, [], ◌∷◌, ◌++◌, filter, get_or, length, map, max, set}
 use Rattle.std.specs.List.{Contains, range_with_len}

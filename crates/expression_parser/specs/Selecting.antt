@@ -44,4 +44,5 @@ abbrev pub SelectsIndex : Outcome Outline → Place → Bool → Result (Option 
 SelectsIndex outcome place joined (Ok found) new before after =
     (found ≡ Some (Index place joined)) × (index : Expr) × (after ≡ before ++ index ∷ [])
     × (outcome ≡ Ok (expr_outline index, new.rest.now))
-SelectsIndex outcome place joined (Err why) new before after = (¬ (why ≡ Memory the_refusal)) → outcome ≡ Err (why, new.rest.now)
+SelectsIndex outcome place joined (Err why) new before after =
+    (¬ (why ≡ Memory the_refusal)) → outcome ≡ Err (why, new.rest.now)

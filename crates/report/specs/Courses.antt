@@ -58,7 +58,8 @@ words_status _ = 3
 
 -- words that aren't taken get an answer, or it is told that there is no memory for them
 abbrev pub untaken : WordsFault → Course
-untaken (words.Memory _) = ends_with (refusal_line (refusal_of (Memory the_refusal))) (refusal_status (refusal_of (Memory the_refusal)))
+untaken (words.Memory refused) =
+    ends_with (refusal_line (refusal_of (Memory refused))) (refusal_status (refusal_of (Memory refused)))
 untaken (words.Words told) =
     λ acts answer. (acts ≡ Answered (kind_of told) ∷ []) × (answer ≡ words_status (kind_of told))
 

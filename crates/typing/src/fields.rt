@@ -22,7 +22,8 @@ pub fn add_fields(
 ) -> Result<(), TypeFault>
     ensures { MatchResult result
         (λ _. named_fields (map field_form fields.old.items) type_id names.now ≡ Ok (map field_form fields.new.items))
-        (λ why. (why ≡ Memory the_refusal) ⊎ (named_fields (map field_form fields.old.items) type_id names.now ≡ Err why)) }
+        (λ why. (why ≡ Memory the_refusal)
+        ⊎ (named_fields (map field_form fields.old.items) type_id names.now ≡ Err why)) }
 {
     for written in names {
         let name = folded(alloc, written.text)?;

@@ -146,7 +146,8 @@ fn field_definitions(
     ensures { MatchResult result
         (λ made. field_definitions types.now place id slot (form_at types.now id)
         ≡ Ok (map definition made.items))
-        (λ why. (why ≡ Memory the_refusal) ⊎ (field_definitions types.now place id slot (form_at types.now id) ≡ Err why)) }
+        (λ why. (why ≡ Memory the_refusal)
+        ⊎ (field_definitions types.now place id slot (form_at types.now id) ≡ Err why)) }
 {
     match types.form(id) {
         Some(TypeForm::Record { fields, .. }) => {

@@ -115,7 +115,8 @@ impl Typer {
 
     // A variable is no control variable from here on, if it is one of a block round this block.
     fn threaten(&mut self, root: u32) -> Result<(), TypeFault>
-        ensures { MatchResult result (λ _. self.new ≡ spec.with_threatened root self.old) (λ why. why ≡ Memory the_refusal) }
+        ensures { MatchResult result (λ _. self.new ≡ spec.with_threatened root self.old)
+            (λ why. why ≡ Memory the_refusal) }
     {
         if !self.is_own(root) {
             self.threatened.insert(root)?;

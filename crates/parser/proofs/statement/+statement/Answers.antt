@@ -67,7 +67,8 @@ pub statements-returns-in_err-put : goal.statements-returns-in_err-put
 statements-returns-in_err-put t c =
     let why = c.in_err-put.field-0.0 in
     let left = c.statement.new.cursor in
-    let stops : (¬ (why ≡ Memory the_refusal)) → separated symbol.Semicolon (spec.statement c.args.levels) c.args.cursor.now.rest.now ≡ Err (why, left.rest.now) =
+    let stops : (¬ (why ≡ Memory the_refusal))
+    → separated symbol.Semicolon (spec.statement c.args.levels) c.args.cursor.now.rest.now ≡ Err (why, left.rest.now) =
     listed_stops stmt_outline symbol.Semicolon (spec.statement c.args.levels) c.loop-statements.cursor.rest.now c.statement.result c.statement.new.cursor
     c.loop-statements.statements.items c.put.new.list.items c.statement.ensures c.loop-statements.invariant why c.in_err-put.ensures in
     search rules
