@@ -1,5 +1,5 @@
-"""Want of memory is told with its evidence alone: a fault `Memory` carries the refusal of an allocation, and no code of the
-crates makes such a refusal of its own."""
+"""Want of memory is told with its evidence alone: a fault `Memory` carries the refusal of an allocation, and no code of
+the crates makes such a refusal of its own."""
 
 import glob
 import os
