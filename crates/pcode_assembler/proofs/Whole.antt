@@ -1,6 +1,7 @@
 -- A text and the code that it says.
 use Rattle.std.proofs.Common.{◌≡◌, ◌≢◌, ℕ, ◌+◌, Bool, true, false, nat_le, List, [], ◌∷◌, ◌++◌, map, Option, Some, None, Result, Ok, Err}
-use Rattle.std.proofs.Common.{length, max, refl, sym, ap, subst, ◌∙◌, codes}
+use Rattle.std.proofs.Common.{length, max, refl, sym, ap, ap₂, subst, ◌∙◌, codes}
+use Rattle.std.specs.Str.{bytes_eq}
 use Rattle.std.specs.Bool.{if◌then◌else◌}
 use Rattle.std.specs.List.{flat_map, list_all}
 use Rattle.std.specs.Option.{is_none}
@@ -19,7 +20,7 @@ use Rattle.pcode_assembler.specs.Contents.{rows, site_rows}
 use Rattle.pcode_assembler.specs.Lines.{content_of, fits, line_of, line_word, part_of, part_of_word}
 use Rattle.pcode_assembler.specs.Reading.{AreRead}
 use Rattle.pcode_assembler.specs.Text.{Seen, below, below_line, body, body_fault, end_fault, fault_at, fault_from, has_end, heading, lines, of_word, or_else}
-use Rattle.pcode_assembler.specs.Text.{reading, rule_at, said_or_rule, seen_in, start, unless}
+use Rattle.pcode_assembler.specs.Text.{frame_fault, heading_fault, reading, rule_at, said_or_rule, seen_in, start, unless}
 use Rattle.pcode_assembler.proofs.Bodies.{are_above, body_again, body_text, end_again}
 use Rattle.pcode_assembler.proofs.LineLaws.{line_above, line_again}
 use Rattle.pcode_assembler.proofs.Numerals.{some_is}
@@ -144,3 +145,33 @@ end_test text false f is none = absurd cc
 
 pub end_from : (text : List ℕ) → end_fault text ≡ None → has_end text ≡ true
 end_from text none = end_test text _ (fault.Refused rule.CutOff (max 1 (length (lines text)))) refl none
+
+-- ---- the fault of the last line or of the first
+
+-- a first line that isn't the heading is the first fault of the lines above the last
+pub heading_first : (lines : List (List ℕ)) (f : AsmFault) → heading_fault lines ≡ Some f → body_fault lines ≡ Some f
+heading_first [] f is = is
+heading_first (first ∷ more) f is = by (bytes_eq first heading) refl is
+  where
+    by : (test : Bool) → bytes_eq first heading ≡ test → (if test then None else Some (fault.Refused rule.UnknownLine 1)) ≡ Some f
+        → body_fault (first ∷ more) ≡ Some f
+    by true same is = absurd cc
+    by false other is = rw other is
+
+-- it is told
+pub framed : (text : List ℕ) (answer : Result Code AsmFault) (error f : AsmFault) → IsErrAnd answer (λ given. given ≡ error)
+    → frame_fault text ≡ Some error → frame_fault text ≡ Some f → answer ≡ Err f
+framed text (Ok code) error f is here there = absurd is
+framed text (Err given) error f is here there = ap Err (is ∙ some_is error f (sym here ∙ there))
+
+pub ended_wrong : (text : List ℕ) (error : AsmFault) → end_fault text ≡ Some error → frame_fault text ≡ Some error
+ended_wrong text error is = ap (λ o. or_else o (heading_fault (body text))) is
+
+pub headed_wrong : (text : List ℕ) (error : AsmFault) → end_fault text ≡ None → heading_fault (body text) ≡ Some error → frame_fault text ≡ Some error
+headed_wrong text error none is = ap₂ or_else none is
+
+-- there is none where a text ends and begins as it has to
+pub unframed : (text : List ℕ) (below : List (List ℕ)) (answer : Result Code AsmFault) (f : AsmFault) → end_fault text ≡ None
+    → body text ≡ heading ∷ below → frame_fault text ≡ Some f → answer ≡ Err f
+unframed text below answer f none is told =
+    absurd (let kept : frame_fault text ≡ None = ap₂ or_else none (ap heading_fault is) in let both : None ≡ Some f = sym kept ∙ told in cc)

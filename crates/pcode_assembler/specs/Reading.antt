@@ -14,7 +14,7 @@ use Rattle.pcode_assembler.specs.declared.labels.Labels.{Labels}
 use Rattle.pcode_assembler.specs.declared.fault.AsmFault.{AsmFault}
 use Rattle.pcode_assembler.specs.declared.fault.AsmFault.TheVariants.{Memory}
 use Rattle.pcode_assembler.specs.Lines.{fits, line_of}
-use Rattle.pcode_assembler.specs.Text.{Seen, body_fault, fault_from, heading, is_label, most, start, weight}
+use Rattle.pcode_assembler.specs.Text.{Seen, fault_from, heading, heading_fault, is_label, most, start, weight}
 use Rattle.pcode_assembler.specs.Contents.{are_right, instruction_rows, point_rows, rows, site_rows}
 
 -- there are no more sites, points and instructions than a text may have
@@ -79,4 +79,4 @@ IsRead seen lines (Err fault) = fault ≢ Memory the_refusal → fault_from seen
 -- the lines below the first, which is the heading, or the fault of a first line that isn't
 abbrev pub IsBelow : List (List ℕ) → Result (List (List ℕ)) AsmFault → Type 0
 IsBelow lines (Ok below) = lines ≡ heading ∷ below
-IsBelow lines (Err fault) = body_fault lines ≡ Some fault
+IsBelow lines (Err fault) = heading_fault lines ≡ Some fault

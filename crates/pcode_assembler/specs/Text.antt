@@ -183,6 +183,15 @@ fault_from seen above number (line ∷ more) =
 abbrev pub heading : List ℕ
 heading = codes "pcode 1"
 
+-- the fault of a first line that isn't the heading
+abbrev pub heading_fault : List (List ℕ) → Option AsmFault
+heading_fault [] = Some (Refused rule.UnknownLine 1)
+heading_fault (first ∷ more) = if bytes_eq first heading then None else Some (Refused rule.UnknownLine 1)
+
+-- the fault of the last line of a text, or else that of the first
+abbrev pub frame_fault : List ℕ → Option AsmFault
+frame_fault text = or_else (end_fault text) (heading_fault (body text))
+
 -- the first fault of the lines above the last
 abbrev pub body_fault : List (List ℕ) → Option AsmFault
 body_fault [] = Some (Refused rule.UnknownLine 1)

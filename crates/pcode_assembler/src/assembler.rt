@@ -1,13 +1,14 @@
-ghost use Rattle.std.specs.Prelude.{◌≡◌, ◌≢◌, ◌==◌, [], IfOk, OnOk, Some};
+ghost use Rattle.std.specs.Prelude.{◌≡◌, ◌≢◌, ◌==◌, [], Err, IfOk, OnOk, Some};
 ghost use Rattle.std.specs.Result.{result_err, result_map_both};
 ghost use Rattle.pcode_assembler.specs.declared.code.Code.{Code as SaidCode};
 ghost use Rattle.memory.specs.Refused.{the_refusal};
+ghost use Rattle.pcode_assembler.specs.declared.fault.AsmFault.{AsmFault as SaidFault};
 ghost use Rattle.pcode_assembler.specs.declared.fault.AsmFault.TheVariants.{Memory};
 ghost use Rattle.pcode_assembler.specs.Contents.{IsReadAs, Says};
 ghost use Rattle.pcode_assembler.specs.Reading.{Adds, Holds, IsBelow, IsRead, seen_by};
 ghost use Rattle.pcode_assembler.specs.Lines.{content_of};
 ghost use Rattle.pcode_assembler.specs.Text as spec;
-ghost use Rattle.pcode_assembler.specs.Text.{body, first_fault};
+ghost use Rattle.pcode_assembler.specs.Text.{body, first_fault, frame_fault};
 
 use crate::above::Above;
 use crate::code::{Code, Point, Site};
@@ -30,10 +31,12 @@ pub fn assemble(alloc: Global, text: &[u8]) -> Result<Code, AsmFault>
     // A text that says a code is read as that, unless memory runs out.
     ensures spelled { (code : SaidCode) → Says text.now code → IsReadAs code result }
     ensures fault { result_err result ≢ Some (Memory the_refusal) → result_err result ≡ first_fault text.now }
+    // A fault of its end or of its first line is told where memory is short too.
+    ensures frame { (fault : SaidFault) → frame_fault text.now ≡ Some fault → result ≡ Err fault }
 {
     check_end(text)?;
-    let labels = Labels::of(alloc, text)?;
     let below = below_heading(text)?;
+    let labels = Labels::of(alloc, text)?;
     let mut code = lines_below(alloc, &labels, below)?;
     code.instructions = labels.resolved(alloc, &code.instructions)?;
     Ok(code)

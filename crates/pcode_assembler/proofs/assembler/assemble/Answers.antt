@@ -1,8 +1,8 @@
-use Rattle.std.proofs.Common.{refl, sym, ap, ◌∙◌, map}
+use Rattle.std.proofs.Common.{refl, rules, sym, ap, ◌∙◌, map}
 use Rattle.pcode_assembler.specs.Contents.{going_to, named}
 use Rattle.pcode_assembler.specs.Reading.{seen_by}
 use Rattle.pcode_assembler.specs.Text.{body, body_fault, end_fault, fault_from, start}
-use Rattle.pcode_assembler.proofs.Whole.{end_from, error_only, exactly, memory_only, no_body_fault, no_end_fault, no_fault_below, one_code}
+use Rattle.pcode_assembler.proofs.Whole.{heading_first, end_from, error_only, exactly, memory_only, no_body_fault, no_end_fault, no_fault_below, one_code}
 use Rattle.pcode_assembler.proofs.assembler.assemble.Goals as goal
 
 pub returns-in_err-check_end-clause-spelled : goal.returns-in_err-check_end-clause-spelled
@@ -17,7 +17,10 @@ returns-in_err-below-clause-spelled c code says =
     let text = c.args.text.now in
     let error = c.in_err-below.field-0.0 in
     error_only code _ error c.from_residual-in_err-below.ensures.1
-    (memory_only error (body_fault (body text)) (no_body_fault text code says) (λ _. c.in_err-below.ensures))
+    (memory_only error (body_fault (body text)) (no_body_fault text code says) (λ _. heading_first (body text) error c.in_err-below.ensures))
+
+pub returns-in_err-below-clause-fault : goal.returns-in_err-below-clause-fault
+returns-in_err-below-clause-fault c = search (heading_first, rules)
 
 pub returns-in_err-code-clause-spelled : goal.returns-in_err-code-clause-spelled
 returns-in_err-code-clause-spelled c code says =
