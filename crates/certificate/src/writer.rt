@@ -38,10 +38,10 @@ pub fn write(alloc: Global, certificate: &Certificate) -> Result<Vec<u8>, AllocE
         Version::One => writer.append(b"pcert 1\n"),
     }
     writer.sections(&certificate.sections);
-    match writer.refused {
-        Some(error) => Err(error),
-        None => Ok(writer.text),
+    if let Some(error) = writer.refused {
+        return Err(error);
     }
+    Ok(writer.text)
 }
 
 /// Reads again what is written of a certificate.

@@ -24,10 +24,10 @@ pub(crate) fn table_of(alloc: Global, blocks: &[MadeBlock]) -> Result<Vec<Loop>,
     for made in blocks {
         meet_block(&mut met, made);
     }
-    match met.refused {
-        Some(refused) => Err(TypeFault::Memory(refused)),
-        None => Ok(met.loops),
+    if let Some(refused) = met.refused {
+        return Err(TypeFault::Memory(refused));
     }
+    Ok(met.loops)
 }
 
 // The rows of the loops, and the control variables, that were met so far.
