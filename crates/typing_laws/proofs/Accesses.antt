@@ -412,7 +412,7 @@ module _ (here : Here) where
   record_at_does slot = record {
     does = λ s a is fine h.
         let same : after (slice_get s.records slot) [] s ≡ a = cc in
-        silent_leaves (λ found now. slice_get here.records slot ≡ found) same Stay refl refl refl fine
+        silent_leaves (λ found now. slice_get here.records slot ≡ found) same Stay refl refl refl refl fine
         (ap (λ (all : List OpenRecord). slice_get all slot) (sym fine.records));
   }
 

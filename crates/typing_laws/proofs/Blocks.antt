@@ -16,7 +16,6 @@ use Rattle.syntax_tree.specs.declared.VariableGroup.{VariableGroup}
 use Rattle.syntax_tree.specs.Places.{Places, block_places, definition_places, group_places, heading_places, joined_places, routine_places, stmt_places}
 use Rattle.syntax_tree.specs.Places.{type_definition_places, block_step as block_row, routine_step as routine_row}
 use Rattle.scopes.specs.Scopes.{Region}
-use Rattle.typed_tree.specs.Ids.{Stands}
 use Rattle.typed_tree.specs.WellFormed.{is_one_of}
 use Rattle.typed_tree.specs.Look.{Look}
 use Rattle.typing.specs.Passing.{Passed, After, Passing, after, behind_marks, each, ◌>>◌}
@@ -27,7 +26,7 @@ use Rattle.typing.specs.Routines.{TypedBlock, TypedRoutine, all_came, block_step
 use Rattle.typing.specs.Routines.{routine_body, routine_step, type_definition, typed_block, typed_routine}
 use Rattle.typing_laws.proofs.Bodies.{Inside, LawfulBody, body_builds, fine_standing, forward_builds}
 use Rattle.typing_laws.proofs.Built.{Built, Builds, LeavesBuilt, Standing, built_silent, built_then, builds_more, builds_then, keeps_builds}
-use Rattle.typing_laws.proofs.Covers.{Covers, covers_behind, covers_both, covers_none}
+use Rattle.typing_laws.proofs.Covers.{Stood, Covers, covers_behind, covers_both, covers_none}
 use Rattle.typing_laws.proofs.Declarations.{definition_keeps, group_keeps, type_definition_keeps}
 use Rattle.typing_laws.proofs.Headings.{parts_of, quiet_parts}
 use Rattle.typing.proofs.Ways.{Stay}
@@ -42,7 +41,7 @@ use Rattle.typing_laws.proofs.Waiting.{none_waiting}
 -- ---- the parts of a block
 
 -- the first parts of a block, and what comes behind them
-record Declared (here : Here) (under : List Region) (Has : List Stands → Type 0) (s : Passed) (rest : Passing (Unit {0})) (a : After (Unit {0})) : Type 0 where
+record Declared (here : Here) (under : List Region) (Has : List Stood → Type 0) (s : Passed) (rest : Passing (Unit {0})) (a : After (Unit {0})) : Type 0 where
   pub look : Look
   pub middle : Passed
   pub built : Built here look s middle
@@ -52,7 +51,7 @@ record Declared (here : Here) (under : List Region) (Has : List Stands → Type 
   pub goes : rest middle ≡ Ok behind_it
   pub both : after behind_it.answer (look ++ behind_it.look) behind_it.passed ≡ a
 
-declared_first : {here : Here} {under : List Region} {Has : List Stands → Type 0} (p rest : Passing (Unit {0})) (s : Passed) (a : After (Unit {0}))
+declared_first : {here : Here} {under : List Region} {Has : List Stood → Type 0} (p rest : Passing (Unit {0})) (s : Passed) (a : After (Unit {0}))
     → Builds here under Has p → (p >> rest) s ≡ Ok a → Standing here under s → Declared here under Has s rest a
 declared_first p rest s a law is st =
     let x = parts_of p (λ _. rest) s a is in
@@ -68,8 +67,8 @@ declared_first p rest s a law is st =
       both = x.both;
     }
 
-declared_next : {here : Here} {under : List Region} {First Second Both : List Stands → Type 0} (q rest : Passing (Unit {0})) (s : Passed)
-    (a : After (Unit {0})) → ((x y : List Stands) → First x → Second y → Both (x ++ y)) → Declared here under First s (q >> rest) a
+declared_next : {here : Here} {under : List Region} {First Second Both : List Stood → Type 0} (q rest : Passing (Unit {0})) (s : Passed)
+    (a : After (Unit {0})) → ((x y : List Stood) → First x → Second y → Both (x ++ y)) → Declared here under First s (q >> rest) a
     → Builds here under Second q → Declared here under Both s rest a
 declared_next q rest s a joined d law =
     let e = declared_first q rest d.middle d.behind_it law d.goes d.standing in
@@ -86,7 +85,7 @@ declared_next q rest s a joined d law =
           ∙ ap (λ (z : After (Unit {0})). after z.answer (d.look ++ z.look) z.passed) e.both ∙ d.both;
     }
 
-no_sites : (places : Places) (sites : List Stands) → sites ≡ [] → Covers 0 places sites
+no_sites : (places : Places) (sites : List Stood) → sites ≡ [] → Covers 0 places sites
 no_sites places sites none = subst (Covers 0 places) (sym none) (covers_none 0 places)
 
 module _ (here : Here) (under : List Region) where
@@ -124,7 +123,7 @@ routines_build : (here : Here) (under : List Region) (rows : List (List Place)) 
 routines_build here under [] [] laws = record {
   builds = λ s a is st.
       let same : after tt [] s ≡ a = cc in
-      subst (LeavesBuilt here under (λ sites. sites ≡ []) s) same (built_silent Stay, no_more refl, st);
+      subst (LeavesBuilt here under (λ sites. sites ≡ []) s) same (built_silent Stay, no_more refl refl, st);
 }
 routines_build here under [] (r ∷ routines) laws = absurd laws
 routines_build here under (row ∷ rows) [] laws = absurd laws
@@ -199,8 +198,8 @@ module _ (constants : List ConstantDefinition) (types : List TypeDefinition) (gr
 -- ---- every block and every routine
 
 -- with other sites
-sited_by : (here : Here) (under : List Region) {Has Had : List Stands → Type 0} (s : Passed) (a : After (Unit {0}))
-    → ((sites : List Stands) → Has sites → Had sites) → LeavesBuilt here under Has s a → LeavesBuilt here under Had s a
+sited_by : (here : Here) (under : List Region) {Has Had : List Stood → Type 0} (s : Passed) (a : After (Unit {0}))
+    → ((sites : List Stood) → Has sites → Had sites) → LeavesBuilt here under Has s a → LeavesBuilt here under Had s a
 sited_by here under s a has k = (k.0, sited_more has k.1, k.2)
 
 abbrev LawfulBlockOf : Block → Type 0

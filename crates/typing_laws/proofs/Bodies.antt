@@ -14,7 +14,6 @@ use Rattle.scopes.specs.Scopes.{Region, opened_beside, outer}
 use Rattle.typed_tree.specs.declared.fault.TypeFault.TheVariants as fault
 use Rattle.typed_tree.specs.declared.site.SiteKind.TheVariants as kind
 use Rattle.typed_tree.specs.declared.tree.FunctionResult.{FunctionResult}
-use Rattle.typed_tree.specs.Ids.{Stands}
 use Rattle.typed_tree.specs.WellFormed.{Outline, variables_of, is_one_of}
 use Rattle.typed_tree.specs.Look.{Mark, Look, BlockEnds, mark_blocks, blocks_of_look, are_formed}
 use Rattle.typed_tree.specs.Look.{is_formed_mark}
@@ -27,7 +26,7 @@ use Rattle.typing.specs.Steps.{close_block, enclosing_now, heading_at, is_assign
 use Rattle.typing.specs.Routines.{Begun, TypedBlock, block_end, forward, result_at_end, routine_block, told_waiting}
 use Rattle.typing_laws.proofs.Built.{Built, EndsSo, HasSite, IsOpen, LeavesBuilt, Standing, ends_append, ends_later, is_between, no_ends, open_later, IsChanged}
 use Rattle.typing_laws.proofs.Built.{IsControlled, IsOver, and_grouped, between_both, contradicts, no_fewer}
-use Rattle.typing_laws.proofs.Covers.{Covers, covers_both, covers_none}
+use Rattle.typing_laws.proofs.Covers.{Stood, Covers, points_among, sites_among, covers_both, covers_none}
 use Rattle.typing_laws.proofs.Grown.{Fine, Grown, Sited, sited_then, both_true, fine_later, further, grown_further, grown_then, IsFree}
 use Rattle.typing_laws.proofs.Headings.{parts_of, quiet_parts}
 use Rattle.typing_laws.proofs.Owned.{Fails, block_cells_longer, other_block}
@@ -62,6 +61,7 @@ told_is number place s a is = cc
 -- behind a heading, once it is told whether its routine waits
 pub record Told (here : Here) (under : List Region) (number : ℕ) (told : Bool) (old new : Passed) : Type 0 where
   pub sites : new.sites ≡ old.sites
+  pub points : new.points ≡ old.points
   pub controls_kept : new.controls ≡ old.controls
   pub grows : Grows old new
   pub standing : Standing here under new
@@ -122,6 +122,7 @@ new_told : (here : Here) (under : List Region) (number : ℕ) (place : Option Pl
     → Began here under number old now → Told here under number (is_place place) old (with_told number place now)
 new_told here under number place old now st b = record {
   sites = b.sites;
+  points = b.points;
   controls_kept = b.controls_kept;
   grows = b.grows;
   standing = told_standing here under now number place b.standing b.is_open;
@@ -176,6 +177,7 @@ resumed_told : (here : Here) (under : List Region) (number : ℕ) (s : Passed) �
     → Told here under number false s (with_told number None s)
 resumed_told here under number s st waits = record {
   sites = refl;
+  points = refl;
   controls_kept = refl;
   grows = as_high;
   standing = told_standing here under s number None st (st.waiting number waits);
@@ -246,7 +248,7 @@ forward_builds here under b place old now a st begins is = by b.is_first begins 
     by true (inl new) goes =
         let told = new_told here under b.number (Some place) old now st new.1 in
         subst (LeavesBuilt here under (λ added. added ≡ []) old) (told_is b.number (Some place) now a goes)
-        (built_told here under b.number old (with_told b.number (Some place) now) told, no_sites told.sites, told.standing)
+        (built_told here under b.number old (with_told b.number (Some place) now) told, no_sites told.sites told.points, told.standing)
     by true (inr waited) goes = absurd cc
     by false begins goes = absurd cc
 
@@ -257,7 +259,7 @@ unfolding is_assigned
 is_assigned_does place root = record {
   does = λ s a is fine h.
       let x = split_if (list_any (nat_eq root) s.assigned) (fault.NeverAssigned place) (after tt [] s) a is in
-      silent_leaves Anything x.1 Stay refl refl refl fine tt;
+      silent_leaves Anything x.1 Stay refl refl refl refl fine tt;
 }
 
 -- the site of a result stands at the end
@@ -270,7 +272,7 @@ unfolding result_at_end
 result_does name end None =
     sited (λ sites none. subst (Covers 0 (end ∷ [])) (sym none) (covers_none 0 (end ∷ []))) (pure_does None (λ n h. (refl, tt)))
 result_does name end (Some root) =
-    sited (λ sites one. (kind.UndefinedResult ∷ [], [], one, (omega arith, tt), refl))
+    sited (λ sites one. (Some kind.UndefinedResult ∷ [], [], one, (omega arith, tt), refl))
     (quietly (is_assigned_does name root) λ _ _ _ _.
     last_does (site_does kind.UndefinedResult end) λ defined now _ known.
     pure_does (Some (record { root = root; defined = defined })) (λ n h. (refl, omega (arith, known, h.sites))))
@@ -278,7 +280,7 @@ result_does name end (Some root) =
 -- ---- a block
 
 -- the declarations of a block, and then its statements
-pub record Inside (here : Here) (under : List Region) (Has : List Stands → Type 0) (s : Passed) (a : After (Unit {0})) : Type 0 where
+pub record Inside (here : Here) (under : List Region) (Has : List Stood → Type 0) (s : Passed) (a : After (Unit {0})) : Type 0 where
   pub first : Look
   pub second : Look
   pub middle : Passed
@@ -797,7 +799,8 @@ routine_block_builds here under number name b places lawful old s a t is =
     let sited : Sited (Covers 0 places) old last =
     let both = sited_then {Both = Covers 0 (lawful.inside ++ (b.end ∷ []))} (covers_both 0 lawful.inside (b.end ∷ [])) i.sited c.sited in record {
       added = both.added;
-      sites = both.sites ∙ ap (λ l. l ++ both.added) t.sites;
+      sites = both.sites ∙ ap (λ l. l ++ sites_among both.added) t.sites;
+      points = both.points ∙ ap (λ l. l ++ points_among both.added) t.points;
       covered = subst (λ l. Covers 0 l both.added) (sym lawful.places_are) both.covered;
     } in
     let built : Built here (i.first ++ ended) old last = record {

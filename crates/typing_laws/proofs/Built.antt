@@ -9,7 +9,6 @@ use Rattle.std.proofs.lemmas.List.{length-map}
 use Rattle.std.proofs.lemmas.Option.{slice_get_within}
 use Rattle.scopes.specs.Scopes.{Region}
 use Rattle.typed_tree.specs.declared.tree.FunctionResult.{FunctionResult}
-use Rattle.typed_tree.specs.Ids.{Stands}
 use Rattle.typed_tree.specs.WellFormed.{Outline, variables_of}
 use Rattle.typed_tree.specs.Look.{Mark, Look, BlockEnds, mark_blocks, blocks_of_look, are_formed}
 use Rattle.typed_tree.specs.declared.tree.Variable.{Variable}
@@ -32,6 +31,7 @@ use Rattle.typing_laws.proofs.Spared.{spared_then}
 use Rattle.typing_laws.proofs.Opened.{opened_then}
 use Rattle.typing_laws.proofs.Kept.{each_append, each_more}
 use Rattle.typing_laws.proofs.Placed.{each_pair, each_square}
+use Rattle.typing_laws.proofs.Covers.{Stood}
 
 -- ---- blocks that end
 
@@ -423,14 +423,14 @@ standing_silent {here} {under} {old} {new} st way ready =
 -- ---- parts of a block
 
 -- with such sites
-abbrev pub LeavesBuilt : Here → List Region → (List Stands → Type 0) → Passed → After (Unit {0}) → Type 0
+abbrev pub LeavesBuilt : Here → List Region → (List Stood → Type 0) → Passed → After (Unit {0}) → Type 0
 LeavesBuilt here under Has s a = Built here a.look s a.passed × Sited Has s a.passed × Standing here under a.passed
 
-pub record Builds (here : Here) (under : List Region) (Has : List Stands → Type 0) (p : Passing (Unit {0})) : Type 0 where
+pub record Builds (here : Here) (under : List Region) (Has : List Stood → Type 0) (p : Passing (Unit {0})) : Type 0 where
   pub builds : (s : Passed) (a : After (Unit {0})) → p s ≡ Ok a → Standing here under s → LeavesBuilt here under Has s a
 
 module _ {here : Here} {under : List Region} where
-  pub builds_then : {First Second Both : List Stands → Type 0} {p q : Passing (Unit {0})} → ((a b : List Stands) → First a → Second b → Both (a ++ b))
+  pub builds_then : {First Second Both : List Stood → Type 0} {p q : Passing (Unit {0})} → ((a b : List Stood) → First a → Second b → Both (a ++ b))
       → Builds here under First p → Builds here under Second q → Builds here under Both (p >> q)
   builds_then {First} {Second} {Both} {p} {q} joined first rest = record {
     builds = λ s a is st.
@@ -440,7 +440,7 @@ module _ {here : Here} {under : List Region} where
         subst (LeavesBuilt here under Both s) x.both (built_then one.0 two.0, sited_then joined one.1 two.1, two.2);
   }
 
-  pub builds_more : {Has Had : List Stands → Type 0} {p : Passing (Unit {0})} → ((a : List Stands) → Has a → Had a) → Builds here under Has p
+  pub builds_more : {Has Had : List Stood → Type 0} {p : Passing (Unit {0})} → ((a : List Stood) → Has a → Had a) → Builds here under Has p
       → Builds here under Had p
   builds_more has law = record {
     builds = λ s a is st.
@@ -458,7 +458,7 @@ module _ {here : Here} {under : List Region} where
         let k = (law (heads_passed s.headings) (block_there s st)).keeps s a is (st.ready, also s st) in
         let way = subst (λ l. Way false (Of here.block) 0 0 l s a.passed) (no_mark k.0) k.0 in (
           subst (λ l. Built here l s a.passed) (sym (no_mark k.0)) (built_silent {here = here} way),
-          no_sites (silent k.0).sites,
+          no_sites (silent k.0).sites (silent k.0).points,
           standing_silent st way k.1.0,
         );
   }

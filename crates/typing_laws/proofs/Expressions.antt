@@ -45,7 +45,7 @@ use Rattle.typing_rules.specs.Targets.{read_as, readable_host}
 use Rattle.typing_rules.specs.Operators.{sign_operation}
 use Rattle.typing_laws.proofs.Reached.{Reached, IsFurther, further_still, whole_of, Here}
 use Rattle.typing_laws.proofs.Kept.{change_later}
-use Rattle.typing_laws.proofs.Covers.{Covers, Leads, leads_first}
+use Rattle.typing_laws.proofs.Covers.{ArePointsAt, Covers, Leads, leads_first, no_point, one_point, points_first, points_last}
 use Rattle.typing_laws.proofs.Grown.{both_true}
 use Rattle.typing_laws.proofs.Strings.{AreOfChar, fit_is, all_of_char, no_characters, char_whole, string_type_does, there as is_there}
 use Rattle.typing_laws.proofs.Tables.{is_string_longer}
@@ -115,22 +115,23 @@ module _ (here : Here) where
   abbrev IsFormedTest : InputTest → Reached → Type 0
   IsFormedTest asked now = (o : Outline) → IsFurther now (whole_of o) → is_well_formed_input o here.block asked ≡ true
 
-  input_test_does : {least : Reached} (function : InputFunction) (place : Place) → Does here least Nothing (input_test function place) IsFormedTest
+  input_test_does : {least : Reached} (function : InputFunction) (place : Place)
+      → Does here least (ArePointsAt place) (input_test function place) IsFormedTest
   unfolding input_test
-  input_test_does asks.Eof place = pure_does test.End (λ n h o more. refl)
+  input_test_does asks.Eof place = sited (no_point place) (pure_does test.End (λ n h o more. refl))
   input_test_does asks.Eoln place =
-      quietly (point_does place) λ id now _ known.
-      pure_does (test.LineEnd id) (λ n h o more. lt_true id o.points (omega (arith, known, h.points, more.points)))
+      sited (one_point place)
+      (last (point_does place) λ id now _ known.
+      pure_does (test.LineEnd id) (λ n h o more. lt_true id o.points (omega (arith, known, h.points, more.points))))
 
   pub input_does : {least : Reached} (function : InputFunction) (place : Place) (lead : Option SiteKind) → IsLed lead
       → Does here least (Covers 2 (place ∷ [])) (input_value function place lead) Types
   unfolding input_value
   input_does function place lead is =
-      led_covers here 2 place [] (led lead) (led_alone lead is)
       (quietly (pass_does place) λ _ _ _ _.
       quietly (wants_file_does file.Input place) λ _ _ _ _.
-      joins (leads_first 2 place (led lead) []) (behind_does lead place) λ id now _ known.
-      quietly (input_test_does function place) λ asked _ one formed.
+      joins (points_last 2 place (led lead) (led_alone lead is)) (behind_does lead place) λ id now _ known.
+      last (input_test_does function place) λ asked _ one formed.
       quietly (enter_does (λ n. Input n asked) (λ n. refl) (λ n. refl) (λ n. refl) (λ n. refl) (λ n o h. formed o h)) λ _ _ two _.
       pure_does (typed boolean id) (λ n h. ordinal_types boolean id now n (further_still one (further_still two h)) known))
 
@@ -221,12 +222,11 @@ module _ (here : Here) where
       → Does here least (Covers 2 (name.place ∷ selector_places selectors rows)) (read_variable name selectors ws) Anything
   unfolding read_variable
   read_does {least} name selectors rows ws laws =
-      sited (λ sites has. ([], sites, refl, tt, has))
       (quietly (find_does name) λ d _ _ sound.
       quietly (variable_does here name.place d sound) λ variable there _ found.
       let origin = variable.origin in
       quietly (may_change_does name.place (root_of origin) found.type_id found.of_root) λ _ changed two may.
-      quietly (point_does name.place) λ id _ three known.
+      joins (points_first 2 name.place (selector_places selectors rows)) (sited (one_point name.place) (point_does name.place)) λ id _ three known.
       quietly (enter_does Access (λ n. refl) (λ n. refl) (λ n. refl) (λ n. refl) (λ n o h. refl)) λ _ entered four _.
       let before = further_still two (further_still three four) in
       let start = leads_later here origin variable.selectors variable.type_id there entered before found.leads_to in

@@ -7,7 +7,6 @@ use Rattle.std.proofs.lemmas.List.Folds.{list_all-append}
 use Rattle.std.proofs.lemmas.Grind.{flat_map-append}
 use Rattle.types.specs.Types.{is_ordinal}
 use Rattle.typed_tree.specs.declared.tree.Variable.{Variable}
-use Rattle.typed_tree.specs.Ids.{Stands}
 use Rattle.typed_tree.specs.WellFormed.{Outline, is_parameter_kind}
 use Rattle.typed_tree.specs.Look.{Look, is_formed_mark}
 use Rattle.typed_tree.specs.Records.{OpenRecord}
@@ -25,6 +24,7 @@ use Rattle.typing_laws.proofs.Reached.{apart_kept}
 use Rattle.typing_laws.proofs.Went.{Grows, grows, inner, same_controls}
 use Rattle.typing_laws.proofs.Kept.{MayChange, change_later, changes_of, controls_of, each_append, each_more}
 use Rattle.typing_laws.proofs.Owned.{Fails}
+use Rattle.typing_laws.proofs.Covers.{Stood, point_of, points_among, site_of, sites_among}
 
 -- ---- headings that were passed
 
@@ -123,22 +123,28 @@ pub record Nested (here : Here) (behind : List OpenRecord) (look : Look) (old ne
 abbrev pub Grown : Here → Look → Passed → Passed → Type 0
 Grown here look old new = Nested here (open_in here) look old new
 
--- the sites that come, of which something holds
-pub record Sited (Has : List Stands → Type 0) (old new : Passed) : Type 0 where
-  pub added : List Stands
-  pub sites : new.sites ≡ old.sites ++ added
+-- the sites and the points that come, of which something holds
+pub record Sited (Has : List Stood → Type 0) (old new : Passed) : Type 0 where
+  pub added : List Stood
+  pub sites : new.sites ≡ old.sites ++ sites_among added
+  pub points : new.points ≡ old.points ++ points_among added
   pub covered : Has added
 
-abbrev pub sited_then : {First Second Both : List Stands → Type 0} {old now new : Passed} → ((a b : List Stands) → First a → Second b → Both (a ++ b))
+abbrev pub sited_then : {First Second Both : List Stood → Type 0} {old now new : Passed} → ((a b : List Stood) → First a → Second b → Both (a ++ b))
     → Sited First old now → Sited Second now new → Sited Both old new
 sited_then {old = old} joined f g = record {
   added = f.added ++ g.added;
-  sites = g.sites ∙ ap (λ l. l ++ g.added) f.sites ∙ append_assoc old.sites f.added g.added;
+  sites =
+      g.sites ∙ ap (λ l. l ++ sites_among g.added) f.sites ∙ append_assoc old.sites (sites_among f.added) (sites_among g.added)
+      ∙ ap (λ l. old.sites ++ l) (sym (flat_map-append (λ (one : Stood). site_of one.0 one.1) f.added g.added));
+  points =
+      g.points ∙ ap (λ l. l ++ points_among g.added) f.points ∙ append_assoc old.points (points_among f.added) (points_among g.added)
+      ∙ ap (λ l. old.points ++ l) (sym (flat_map-append (λ (one : Stood). point_of one.0 one.1) f.added g.added));
   covered = joined f.added g.added f.covered g.covered;
 }
 
-abbrev pub sited_more : {Has Had : List Stands → Type 0} {old new : Passed} → ((a : List Stands) → Has a → Had a) → Sited Has old new → Sited Had old new
-sited_more has x = record { added = x.added; sites = x.sites; covered = has x.added x.covered }
+abbrev pub sited_more : {Has Had : List Stood → Type 0} {old new : Passed} → ((a : List Stood) → Has a → Had a) → Sited Has old new → Sited Had old new
+sited_more has x = record { added = x.added; sites = x.sites; points = x.points; covered = has x.added x.covered }
 
 pub both_true : (a b : Bool) → a ≡ true → b ≡ true → (a && b) ≡ true
 both_true a b x y = ap (λ c. c && b) x ∙ y

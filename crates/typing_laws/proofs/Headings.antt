@@ -280,6 +280,7 @@ result_regions number place (Some id) s a is =
 -- what a heading leaves: one more of a block of this number, and the block round it as it was
 pub record HeadingAdded (here : Here) (under : List Region) (number : ℕ) (old new : Passed) : Type 0 where
   pub sites : new.sites ≡ old.sites
+  pub points : new.points ≡ old.points
   pub controls_kept : new.controls ≡ old.controls
   pub records_kept : new.records ≡ old.records
   pub grows : Grows old new
@@ -649,6 +650,7 @@ module _ (here : Here) (under : List Region) (number : ℕ) (name : Name) (group
       } in
       let added : HeadingAdded here under number s new = record {
         sites = (silent p.way).sites ∙ (silent r.way).sites;
+        points = (silent p.way).points ∙ (silent r.way).points;
         controls_kept = same_controls p.way ∙ same_controls r.way;
         records_kept = (silent p.way).records ∙ (silent r.way).records;
         grows = record {

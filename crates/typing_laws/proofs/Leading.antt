@@ -10,14 +10,13 @@ use Rattle.typed_tree.specs.declared.site.SiteKind.{SiteKind}
 use Rattle.typed_tree.specs.declared.tree.Heading.{Heading}
 use Rattle.typed_tree.specs.declared.tree.Variable.{Variable}
 use Rattle.typed_tree.specs.WellFormed.{Outline, formal_of, is_variable_kind}
-use Rattle.typed_tree.specs.Ids.{Stands}
 use Rattle.typed_tree.specs.Sites.{number_of}
 use Rattle.typing.specs.Passing.{Passing}
 use Rattle.typing_rules.specs.declared.typed.Typed.{Typed}
 use Rattle.typing.specs.Expressions.{Written, WrittenLink, no_variable, not_readable, written}
 use Rattle.typing_rules.specs.Typed.{typed, typed_set}
 use Rattle.typing_laws.proofs.Copies.{HasSource, source_longer}
-use Rattle.typing_laws.proofs.Covers.{AreAbove, Covers, Leads, covers_ahead, covers_lower, leads_covers}
+use Rattle.typing_laws.proofs.Covers.{Stood, AreAbove, Covers, Leads, covers_ahead, covers_lower, leads_covers}
 use Rattle.typing_laws.proofs.Reached.{Signature, signature_of, Reached, whole_of, IsFurther, Here, get_longer, get_mapped}
 use Rattle.typing_laws.proofs.Tables.{stands_longer}
 use Rattle.typing_laws.proofs.Steps.{Does, Anything, Nothing, fail_does, pure_does, sited, led, IsKnown}
@@ -125,11 +124,11 @@ module _ (here : Here) where
 
   -- the site of a test at the first token, before the token's own
   pub covers_test : (kind : SiteKind) → 0 < number_of kind → number_of kind ≤ 2 → (places : List Place) (w : Written) → LawfulWritten places w
-      → (a b : List Stands) → a ≡ (kind, w.first) ∷ [] → Covers 2 places b → Covers 0 places (a ++ b)
+      → (a b : List Stood) → a ≡ (Some kind, w.first) ∷ [] → Covers 2 places b → Covers 0 places (a ++ b)
   covers_test kind high low places w law a b one has =
       let others = law.begins.0 in
       subst (λ l. Covers 0 places (l ++ b)) (sym one)
-      (subst (λ p. Covers 0 p ((kind, w.first) ∷ b)) (sym law.begins.1)
+      (subst (λ p. Covers 0 p ((Some kind, w.first) ∷ b)) (sym law.begins.1)
       (covers_ahead 0 kind high w.first others b
       (covers_lower 2 (number_of kind) low (w.first ∷ others) b (subst (λ p. Covers 2 p b) law.begins.1 has))))
 

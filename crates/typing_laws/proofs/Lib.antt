@@ -3,7 +3,7 @@ pub mod WholeRanges
 pub mod Tables
 pub mod Sound
 pub mod Constants
-mod Covers
+pub mod Covers
 mod Owned
 mod Kept
 mod Spared
@@ -39,6 +39,7 @@ pub mod Routines
 pub mod Bodies
 pub mod Blocks
 mod Ordered
+mod AtPlaces
 pub mod Outlines
 pub mod Programs
 mod There

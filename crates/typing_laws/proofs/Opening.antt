@@ -21,7 +21,6 @@ use Rattle.typed_tree.specs.declared.fault.TypeFault.TheVariants as fault
 use Rattle.typed_tree.specs.declared.tree.Selector.{Selector as TreeSelector}
 use Rattle.typed_tree.specs.declared.tree.Variable.{Variable}
 use Rattle.typed_tree.specs.Accesses.{Origin, index_count, root_of}
-use Rattle.typed_tree.specs.Ids.{Stands}
 use Rattle.typed_tree.specs.Look.{Look, Mark, Access, Do, Opens, With, WithEnds, is_formed_mark}
 use Rattle.typed_tree.specs.Records.{OpenRecord as BareRecord, is_there}
 use Rattle.typed_tree.specs.WellFormed.{Outline, is_record_form, most_entries}
@@ -34,7 +33,7 @@ use Rattle.typing.proofs.Ways.{Nobody, Way, Stay, One, Then, Marked, Record, Rec
 use Rattle.typing_laws.specs.Controls.{Each, mark_changes, mark_controls}
 use Rattle.typing_laws.specs.Opened.{opened_behind, record_of}
 use Rattle.typing_laws.proofs.Accesses.{LeadsTo, field_selects, leads_later, opened_lies, record_formed, selected_does, variable_does}
-use Rattle.typing_laws.proofs.Covers.{Covers, covers_both, covers_skip}
+use Rattle.typing_laws.proofs.Covers.{Stood, Covers, covers_both, covers_skip}
 use Rattle.typing_laws.proofs.EveryExpression.{indexes_lawful}
 use Rattle.typing_laws.proofs.Grown.{Fine, Grown, IsFree, Nested, Sited, both_true, fine_later, further, grown_then, heads_of, sited_then}
 use Rattle.typing_laws.proofs.Kept.{MayChange, changes_of, controls_of, each_append, each_more}
@@ -73,6 +72,10 @@ closed_last (one ∷ others) s = closed_last others (without_record s)
 closed_sites : {A : Type 0} (records : List A) (s : Passed) → (closed_by records s).sites ≡ s.sites
 closed_sites [] s = refl
 closed_sites (one ∷ others) s = closed_sites others (without_record s)
+
+closed_points : {A : Type 0} (records : List A) (s : Passed) → (closed_by records s).points ≡ s.points
+closed_points [] s = refl
+closed_points (one ∷ others) s = closed_points others (without_record s)
 
 -- ---- where one more is open
 
@@ -209,7 +212,7 @@ nested_closed {here} {look} {s} {new} behind more slot first goes_on n = record 
 
 -- ---- a record is opened
 
-record OpensOne (here : Here) (Has : List Stands → Type 0) (s : Passed) (a : After (Unit {0})) : Type 0 where
+record OpensOne (here : Here) (Has : List Stood → Type 0) (s : Passed) (a : After (Unit {0})) : Type 0 where
   pub origin : Origin
   pub selectors : List TreeSelector
   pub id : TypeId
@@ -224,12 +227,12 @@ record OpensOne (here : Here) (Has : List Stands → Type 0) (s : Passed) (a : A
   pub formed : (o : Outline) → IsFurther (reached last) (whole_of o) → is_formed_mark o here.block (Opens origin selectors (index_count selectors)) ≡ true
   pub fine : Fine (here_with here (opened_record origin selectors id)) (with_record region (opened_record origin selectors id) last)
 
-record OpensHere (here : Here) (least : Reached) (Has : List Stands → Type 0) (p : Passing (Unit {0})) : Type 0 where
+record OpensHere (here : Here) (least : Reached) (Has : List Stood → Type 0) (p : Passing (Unit {0})) : Type 0 where
   pub opens : (s : Passed) (a : After (Unit {0})) → p s ≡ Ok a → Fine here s → IsFurther least (reached s) → OpensOne here Has s a
 
 -- behind other forms
-opens_behind : {here : Here} {least : Reached} {A : Type 0} {First Second Both : List Stands → Type 0} {p : Passing A} {f : A → Passing (Unit {0})}
-    {K : A → Reached → Type 0} → ((a b : List Stands) → First a → Second b → Both (a ++ b)) → Does here least First p K
+opens_behind : {here : Here} {least : Reached} {A : Type 0} {First Second Both : List Stood → Type 0} {p : Passing A} {f : A → Passing (Unit {0})}
+    {K : A → Reached → Type 0} → ((a b : List Stood) → First a → Second b → Both (a ++ b)) → Does here least First p K
     → ((x : A) (now : Reached) → IsFurther least now → K x now → OpensHere here now Second (f x)) → OpensHere here least Both (p >>= f)
 opens_behind {here} {Both = Both} {p = p} {f = f} joined first rest = record {
   opens = λ s b is fine h.
@@ -255,7 +258,7 @@ opens_behind {here} {Both = Both} {p = p} {f = f} joined first rest = record {
       });
 }
 
-opens_quietly : {here : Here} {least : Reached} {A : Type 0} {Has : List Stands → Type 0} {p : Passing A} {f : A → Passing (Unit {0})}
+opens_quietly : {here : Here} {least : Reached} {A : Type 0} {Has : List Stood → Type 0} {p : Passing A} {f : A → Passing (Unit {0})}
     {K : A → Reached → Type 0} → Does here least Nothing p K
     → ((x : A) (now : Reached) → IsFurther least now → K x now → OpensHere here now Has (f x)) → OpensHere here least Has (p >>= f)
 opens_quietly {Has = Has} first rest = opens_behind (λ a b none has. subst (λ l. Has (l ++ b)) (sym none) has) first rest
@@ -316,7 +319,7 @@ module _ (here : Here) where
             spared = λ roots held. refl;
             opened = refl;
           };
-          sites = no_sites refl;
+          sites = no_sites refl refl;
           look_is = refl;
           passed_is = refl;
           there = led.opens;
@@ -343,7 +346,7 @@ module _ (here : Here) where
       opens_last one.name.place origin component.0 component.1 found.type_id l
       (variable_later here there met (root_of origin) found.type_id (further_still third fourth) found.of_root))
     where
-      opens_more : {Has Had : List Stands → Type 0} {p : Passing (Unit {0})} → ((a : List Stands) → Has a → Had a) → OpensHere here least Has p
+      opens_more : {Has Had : List Stood → Type 0} {p : Passing (Unit {0})} → ((a : List Stood) → Has a → Had a) → OpensHere here least Has p
           → OpensHere here least Had p
       opens_more has law = record {
         opens = λ s a is fine h.
@@ -356,7 +359,7 @@ module _ (here : Here) where
               look = k.look;
               last = k.last;
               grown = k.grown;
-              sites = record { added = k.sites.added; sites = k.sites.sites; covered = has k.sites.added k.sites.covered };
+              sites = record { added = k.sites.added; sites = k.sites.sites; points = k.sites.points; covered = has k.sites.added k.sites.covered };
               look_is = k.look_is;
               passed_is = k.passed_is;
               there = k.there;
@@ -386,7 +389,7 @@ opens_all here [] s b is fine =
       fine = fine;
       more = [];
       opens = sym (append-nil (open_in here));
-      sites = no_sites refl;
+      sites = no_sites refl refl;
       wraps = λ look t g. g;
     })
 opens_all here (one ∷ others) s b is fine =
@@ -416,6 +419,7 @@ opens_all here (one ∷ others) s b is fine =
           sites = sited_then (covers_both 0 (record_places one) (flat_map record_places others)) first.sites (record {
             added = all.sites.added;
             sites = all.sites.sites;
+            points = all.sites.points;
             covered = all.sites.covered;
           });
           wraps = λ look t g.
@@ -436,7 +440,7 @@ unfolding next_slot
 next_slot_does {here} = record {
   does = λ s a is fine h.
       let same : after (length s.records) [] s ≡ a = cc in
-      silent_leaves (λ slot now. slot ≡ length (open_in here)) same Stay refl refl refl fine
+      silent_leaves (λ slot now. slot ≡ length (open_in here)) same Stay refl refl refl refl fine
       (ap length fine.records ∙ sym (length-map here.records bare_record));
 }
 
@@ -481,8 +485,16 @@ module _ (here : Here) (records : List RecordVariable) (body : Passing (Unit {0}
         ∙ ap (λ (z : After (Unit {0})). after z.answer (b.look ++ (Do ∷ (c.look ++ z.look))) z.passed) ended
         ∙ ap (λ (z : After (Unit {0})). after z.answer (b.look ++ (Do ∷ z.look)) z.passed) w.2
         ∙ ap (λ (z : After (Unit {0})). after z.answer (b.look ++ z.look) z.passed) u.2 ∙ y.2 in
-        subst (Leaves here (Covers 0 (flat_map record_places records ++ places)) s Anything) whole
-        (grown, record { added = both.added; sites = closed_sites records c.passed ∙ both.sites; covered = both.covered }, tt);
+        subst (Leaves here (Covers 0 (flat_map record_places records ++ places)) s Anything) whole (
+          grown,
+          record {
+            added = both.added;
+            sites = closed_sites records c.passed ∙ both.sites;
+            points = closed_points records c.passed ∙ both.points;
+            covered = both.covered;
+          },
+          tt,
+        );
   }
     where
       ended_is : (t : Passed) (e : After (Unit {0})) → (each (λ _. close_record) variables_written >>= (λ _. mark (WithEnds slot))) t ≡ Ok e

@@ -273,7 +273,7 @@ module _ (here : Here) where
 
   tested_does : {least : Reached} (made : ℕ → Dyadic) (kind : SiteKind) (place : Place)
       → ((w : Outline) (id : ℕ) → id < w.sites → dyadic_is_well_formed w here.block (made id) ≡ true)
-      → Does here least (λ added. added ≡ (kind, place) ∷ []) (tested made kind place) IsFormed
+      → Does here least (λ added. added ≡ (Some kind, place) ∷ []) (tested made kind place) IsFormed
   unfolding tested
   tested_does made kind place formed =
       last (site_does kind place) λ id now _ known.

@@ -1,7 +1,7 @@
 -- The law of typing: what each typed program has.
 use Rattle.std.proofs.Common.{◌≡◌, ℕ, zero, suc, ◌+◌, ◌<◌, ◌≤◌, true, false, ◌&&◌, nat_eq, nat_lt, nat_le, List, [], ◌∷◌, ◌++◌, length, map, Option, Some, None}
 use Rattle.std.proofs.Common.{Ok, slice_get, refl, sym, ap, ap₂, subst, ◌∙◌, arith, append_assoc}
-use Rattle.std.specs.Prelude.{IsPermutation}
+use Rattle.std.specs.Prelude.{Contains, IsPermutation}
 use Rattle.std.specs.List.{range_with_len, list_all}
 use Rattle.std.proofs.lemmas.Bool.Decides.{nat_tests}
 use Rattle.std.proofs.lemmas.Grind.{flat_map-append}
@@ -17,7 +17,7 @@ use Rattle.scopes.specs.Scopes.{Region, opened}
 use Rattle.typed_tree.specs.declared.tree.FunctionResult.{FunctionResult}
 use Rattle.typed_tree.specs.declared.tree.Heading.{Heading as TreeHeading}
 use Rattle.typed_tree.specs.declared.tree.Variable.{Variable}
-use Rattle.typed_tree.specs.Ids.{Stands, AreByPlace}
+use Rattle.typed_tree.specs.Ids.{AreByPlace}
 use Rattle.typed_tree.specs.Look.{Look, Mark, BlockEnds, mark_blocks, blocks_of_look, are_formed}
 use Rattle.typed_tree.specs.WellFormed.{Outline, are_few_cells, is_heading, most_entries}
 use Rattle.typing.specs.Names.{all_folded, required_region}
@@ -32,7 +32,8 @@ use Rattle.typing_laws.specs.Lawful.{IsOutlineOf, Lawful}
 use Rattle.typing_laws.proofs.Blocks.{block_lawful}
 use Rattle.typing_laws.proofs.Bodies.{closed, closed_blocks, closed_formed, fine_standing, unthreatened_at_end}
 use Rattle.typing_laws.proofs.Built.{AreEnds, Built, Builds, EndsSo, HasSite, Standing, built_then, ends_append, ends_later, is_between, keeps_builds, no_ends}
-use Rattle.typing_laws.proofs.Covers.{Covers, covers_behind, covers_both, covers_skip}
+use Rattle.typing_laws.proofs.AtPlaces.{points_at, sites_at}
+use Rattle.typing_laws.proofs.Covers.{Stood, Covers, points_among, sites_among, covers_behind, covers_both, covers_skip}
 use Rattle.typing_laws.proofs.Declarations.{parameter_keeps}
 use Rattle.typing_laws.proofs.Assigned.{results_assigned}
 use Rattle.typing_laws.proofs.Went.{grows, inner}
@@ -140,8 +141,9 @@ record Whole (program : Program) (a : After (Unit {0})) : Type 0 where
   pub end : Place
   pub ends : EndsSo (reached a.passed) 0 headed.around headed.parameters result
   pub look : a.look ≡ first ++ (second ++ (BlockEnds 0 headed.around headed.parameters result end ∷ []))
-  pub added : List Stands
-  pub sites : a.passed.sites ≡ added
+  pub added : List Stood
+  pub sites : a.passed.sites ≡ sites_among added
+  pub points : a.passed.points ≡ points_among added
   pub covered : Covers 0 (program_places program) added
 
 twice : (r : Checked (After (Unit {0}))) (a : After (Unit {0})) → behind_marks [] (behind_marks [] r) ≡ Ok a → r ≡ Ok a
@@ -181,7 +183,10 @@ whole program a is =
     mapped_get signature_passed y.second.passed.headings 0 program_heading
     (ap (λ l. slice_get l 0) (inner g.way).headings ∙ get_longer f.grows.headings 0 program_heading at_start) in
     let sited = sited_then {Both = Covers 0 (law.inside ++ (block.end ∷ []))} (covers_both 0 law.inside (block.end ∷ [])) i.sited c.sited in
-    let sites : y.second.passed.sites ≡ sited.added = sited.sites ∙ ap (λ l. l ++ sited.added) (p.1.sites ∙ p.1.covered) in
+    let sites : y.second.passed.sites ≡ sites_among sited.added =
+    sited.sites ∙ ap (λ l. l ++ sites_among sited.added) (p.1.sites ∙ ap sites_among p.1.covered) in
+    let points : y.second.passed.points ≡ points_among sited.added =
+    sited.points ∙ ap (λ l. l ++ points_among sited.added) (p.1.points ∙ ap points_among p.1.covered) in
     subst (Whole program) made (record {
       start = s1;
       starts = (refl, refl, (λ number. refl));
@@ -206,6 +211,7 @@ whole program a is =
       look = all_look;
       added = sited.added;
       sites = sites;
+      points = points;
       covered =
           covers_skip 0 program.name.place (name_places program.parameters.items ++ block_places program.block) sited.added
           (covers_behind 0 (name_places program.parameters.items) (block_places program.block) sited.added
@@ -381,6 +387,8 @@ module _ (program : Program) (a : After (Unit {0})) (w : Whole program a) where
     assigned = results_assigned way refl;
     few_sites = few_sites way (omega arith);
     few_points = few_points way (omega arith);
+    sites_there = λ site has. sites_at (program_places program) w.added w.covered site (subst (λ l. Contains l site) w.sites has);
+    points_there = λ point has. points_at (program_places program) w.added w.covered point (subst (λ l. Contains l point) w.points has);
     types = w.grown.lawful.begin;
     by_place = λ order. subst AreByPlace (sym w.sites) (covers_by_place (program_places program) w.added order w.covered);
   }

@@ -58,6 +58,7 @@ ready_heads here under heads head s room r = record {
 pub record Began (here : Here) (under : List Region) (number : ℕ) (old new : Passed) : Type 0 where
   pub number_is : number ≡ length old.headings
   pub sites : new.sites ≡ old.sites
+  pub points : new.points ≡ old.points
   pub controls_kept : new.controls ≡ old.controls
   pub grows : Grows old new
   pub one_more : length new.headings ≡ length old.headings + 1
@@ -167,6 +168,7 @@ module _ (here : Here) (under : List Region) where
           record {
             number_is = refl;
             sites = added.sites;
+            points = added.points;
             controls_kept = added.controls_kept;
             grows = added.grows;
             one_more = ap length added.headings ∙ length-append s.headings (added.headed ∷ []);

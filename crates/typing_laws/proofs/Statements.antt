@@ -29,7 +29,6 @@ use Rattle.typed_tree.specs.declared.fault.TypeFault.TheVariants as fault
 use Rattle.typed_tree.specs.declared.site.SiteKind.{SiteKind}
 use Rattle.typed_tree.specs.declared.site.SiteKind.TheVariants as kind
 use Rattle.typed_tree.specs.declared.tree.Representation.{Representation}
-use Rattle.typed_tree.specs.Ids.{Stands}
 use Rattle.typed_tree.specs.Sites.{number_of}
 use Rattle.typed_tree.specs.declared.tree.Variable.{Variable}
 use Rattle.typed_tree.specs.Look.{Assign, Copied, Fits, Write, Written as WrittenMark, Width, Empty, Compound, If, Then, Else, While, Do, Repeat, Until, For}
@@ -64,7 +63,7 @@ use Rattle.typing.specs.Statements.{for_loop, case_arms, case_head, case_body, c
 use Rattle.typing_laws.proofs.Opened.{open_in, stands_there}
 use Rattle.typing_laws.proofs.Tables.{has_kind, is_string_longer, is_structured_longer, kind_longer, ordinal_held}
 use Rattle.typing_laws.proofs.Copies.{IsCopyFor, copy_formed, copying_there}
-use Rattle.typing_laws.proofs.Covers.{Covers, covers_any, covers_both, covers_none, covers_behind, covers_more, covers_skip, covers_lower, leads_first}
+use Rattle.typing_laws.proofs.Covers.{ArePointsAt, Stood, Covers, no_point, one_point, points_first, covers_any, covers_both, covers_none, covers_behind, covers_more, covers_skip, covers_lower, leads_first}
 use Rattle.typing_laws.proofs.Grown.{heads_of, both_true}
 use Rattle.typing_laws.proofs.Reached.{Reached, whole_of, IsFurther, further_still, Here, StandsIn, get_longer}
 use Rattle.typing_laws.proofs.Sound.{IsRoutine, IsVariable, variable_later}
@@ -138,7 +137,7 @@ module _ (here : Here) where
   -- ---- assignments
 
   -- the range of a test is that of the type
-  ranges_do : {least : Reached} {Has : List Stands → Type 0} {p : Passing Typed} (id : TypeId) (place : Place) → Does here least Has p Types
+  ranges_do : {least : Reached} {Has : List Stood → Type 0} {p : Passing Typed} (id : TypeId) (place : Place) → Does here least Has p Types
       → Does here least Has (p >>? (λ types t. or_mismatch place (fitting types id t))) (λ range n. IsRangeOf n.types id range)
   ranges_do id place typed = checks_types typed λ types t range n more same lawful fits _. fitting_whole place types n.types id t range same lawful.whole fits
 
@@ -210,7 +209,7 @@ module _ (here : Here) where
   abbrev AreAmong : List (List Place) → List WrittenActual → Type 0
   AreAmong all parameters =
       (rows : List (List Place)) × AreLawfulActuals here rows parameters
-      × ((sites : List Stands) → Covers 0 (joined_places rows) sites → Covers 0 (joined_places all) sites)
+      × ((sites : List Stood) → Covers 0 (joined_places rows) sites → Covers 0 (joined_places all) sites)
 
   behind_file_among : (wanted : File) (place : Place) (row : List Place) (rows : List (List Place)) (first : WrittenActual) (rest : List WrittenActual)
       (named : Option File) (found : List WrittenActual) → LawfulActual here row first → AreLawfulActuals here rows rest
@@ -310,18 +309,20 @@ module _ (here : Here) where
   abbrev IsFormedLine : Option ℕ → Reached → Type 0
   IsFormedLine line now = (o : Outline) → IsFurther now (whole_of o) → is_well_formed_line o here.block line ≡ true
 
-  line_point_does : {least : Reached} (place : Place) (ends_line : Bool) → Does here least Nothing (line_point place ends_line) IsFormedLine
+  line_point_does : {least : Reached} (place : Place) (ends_line : Bool)
+      → Does here least (ArePointsAt place) (line_point place ends_line) IsFormedLine
   unfolding line_point
-  line_point_does place false = pure_does None (λ n h o more. refl)
+  line_point_does place false = sited (no_point place) (pure_does None (λ n h o more. refl))
   line_point_does place true =
-      quietly (point_does place) λ id now _ known.
-      pure_does (Some id) (λ n h o more. lt_true id o.points (omega (arith, known, h.points, more.points)))
+      sited (one_point place)
+      (last (point_does place) λ id now _ known.
+      pure_does (Some id) (λ n h o more. lt_true id o.points (omega (arith, known, h.points, more.points))))
 
   read_does : (least : Reached) (name : Name) (rows : List (List Place)) (actuals : List WrittenActual) (procedure : RequiredProcedure)
-      → AreLawfulActuals here rows actuals → Does here least (Covers 0 (joined_places rows)) (read name actuals procedure) Anything
+      → AreLawfulActuals here rows actuals → Does here least (Covers 0 (name.place ∷ joined_places rows)) (read name actuals procedure) Anything
   unfolding read
   read_does least name rows actuals procedure laws =
-      quietly (line_point_does name.place procedure.ends_line) λ line _ _ formed.
+      joins (points_first 0 name.place (joined_places rows)) (line_point_does name.place procedure.ends_line) λ line _ _ formed.
       quietly (enter_does (λ n. Read n name.place line) (λ n. refl) (λ n. refl) (λ n. refl) (λ n. refl) (λ n o h. formed o h)) λ _ _ _ _.
       quietly (parameters_are name.place procedure rows actuals laws) λ variables now _ among.
       sited among.2
@@ -329,12 +330,13 @@ module _ (here : Here) where
       mark_does Ends refl refl refl refl (λ n h. refl))
 
   by_file_does : (least : Reached) (one : File) (name : Name) (rows : List (List Place)) (actuals : List WrittenActual) (procedure : RequiredProcedure)
-      → AreLawfulActuals here rows actuals → Does here least (Covers 0 (joined_places rows)) (by_file one name actuals procedure) Anything
+      → AreLawfulActuals here rows actuals → Does here least (Covers 0 (name.place ∷ joined_places rows)) (by_file one name actuals procedure) Anything
   by_file_does least file.Input name rows actuals procedure laws = read_does least name rows actuals procedure laws
-  by_file_does least file.Output name rows actuals procedure laws = write_does least name rows actuals procedure laws
+  by_file_does least file.Output name rows actuals procedure laws =
+      sited (λ added. covers_skip 0 name.place (joined_places rows) added) (write_does least name rows actuals procedure laws)
 
   file_call_does : {least : Reached} (name : Name) (rows : List (List Place)) (actuals : List WrittenActual) (procedure : RequiredProcedure)
-      → AreLawfulActuals here rows actuals → Does here least (Covers 0 (joined_places rows)) (file_call name actuals procedure) Anything
+      → AreLawfulActuals here rows actuals → Does here least (Covers 0 (name.place ∷ joined_places rows)) (file_call name actuals procedure) Anything
   unfolding file_call
   file_call_does name rows actuals procedure laws =
       quietly (wants_file_does procedure.file name.place) λ _ now _ _.
@@ -355,20 +357,20 @@ module _ (here : Here) where
 
   called_does : {least : Reached} (found : Option (ℕ × Bool)) (d : Denotation) → as_routine d ≡ found → IsFound here d least → (name : Name)
       (rows : List (List Place)) (actuals : List WrittenActual) → AreLawfulActuals here rows actuals
-      → Does here least (Covers 0 (joined_places rows)) (call_by found d name actuals) Anything
+      → Does here least (Covers 0 (name.place ∷ joined_places rows)) (call_by found d name actuals) Anything
   unfolding required_call
   called_does None d same sound name rows actuals laws =
       quietly (given_does (as_procedure name.place d)) λ procedure _ _ _. file_call_does name rows actuals procedure laws
   called_does {least} (Some routine) d same sound name rows actuals laws =
-      declared_does routine.0 routine.1 name rows actuals (routine_is here least d routine same sound.0) sound.1 laws
+      sited (λ added. covers_skip 0 name.place (joined_places rows) added)
+      (declared_does routine.0 routine.1 name rows actuals (routine_is here least d routine same sound.0) sound.1 laws)
 
   call_does : (name : Name) (actuals : List Actual)
       → LawfulStatement (name.place ∷ flat_map actual_places actuals) (procedure_call name (map written_actual actuals))
   unfolding procedure_call
   call_does name actuals = record {
     passes = λ least.
-        sited (λ sites has.
-        covers_skip 0 name.place (flat_map actual_places actuals) sites (subst (λ p. Covers 0 p sites) (joined_mapped actuals) has))
+        sited (λ added has. subst (λ p. Covers 0 (name.place ∷ p) added) (joined_mapped actuals) has)
         (quietly (find_does name) λ d _ _ sound.
         called_does (as_routine d) d refl sound name (map actual_places actuals) (map written_actual actuals) (every_actual_lawful here actuals));
   }
@@ -600,7 +602,7 @@ arms_lawful here (row ∷ rows) (y ∷ ys) type_id before least =
     joins (covers_both 0 (stmt_places y.0) (arms_row rows ys)) ((y.1 here).passes now) λ _ there _ _.
     arms_lawful here rows ys type_id (before ++ values) there)
   where
-    behind_constants : (sites : List Stands) → Covers 0 (stmt_places y.0 ++ arms_row rows ys) sites → Covers 0 (arms_row (row ∷ rows) (y ∷ ys)) sites
+    behind_constants : (sites : List Stood) → Covers 0 (stmt_places y.0 ++ arms_row rows ys) sites → Covers 0 (arms_row (row ∷ rows) (y ∷ ys)) sites
     behind_constants sites has =
         subst (λ p. Covers 0 p sites) (sym (append_assoc (flat_map constant_places row.items) (stmt_places y.0) (arms_row rows ys)))
         (covers_behind 0 (flat_map constant_places row.items) (stmt_places y.0 ++ arms_row rows ys) sites has)

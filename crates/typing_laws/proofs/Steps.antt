@@ -19,7 +19,6 @@ use Rattle.typed_tree.specs.declared.tree.Variable.{Variable}
 use Rattle.typed_tree.specs.declared.fault.TypeFault.{TypeFault}
 use Rattle.typed_tree.specs.declared.fault.TypeFault.TheVariants as fault
 use Rattle.typed_tree.specs.declared.site.SiteKind.{SiteKind}
-use Rattle.typed_tree.specs.Ids.{Stands}
 use Rattle.typed_tree.specs.WellFormed.{Outline, are_characters, is_local_kind, most_entries}
 use Rattle.typed_tree.specs.Threats.{is_none_of}
 use Rattle.typed_tree.specs.Look.{For, Controls, ForEnds, Mark, Look, is_formed_mark}
@@ -34,7 +33,7 @@ use Rattle.typing.specs.Statements.{for_body}
 use Rattle.typing.specs.Names.{folded}
 pub use Rattle.typing.proofs.Ways.{below}
 use Rattle.typing.proofs.Ways.{numbers_of, Nobody, Way, Stay, One, Controlled, Token, Entry, Loop, Marked, Site, Point, Threat, Text, Assigned, with_result}
-use Rattle.typing_laws.proofs.Covers.{at_place}
+use Rattle.typing_laws.proofs.Covers.{Stood, at_place}
 use Rattle.typing_laws.proofs.Grown.{heads_of, FitsHeading, Fine, Grown, Sited, sited_then, sited_more, further, fine_later, grown_then, both_true, IsFree}
 use Rattle.typing_laws.proofs.Reached.{get_longer, get_mapped, get_or_is, Signature, signature_passed, Reached, reached, whole_of, IsFurther}
 use Rattle.typing_laws.proofs.Reached.{as_far, further_still, Here, StandsIn}
@@ -49,11 +48,11 @@ use Rattle.typing_laws.proofs.Opened.{one_opened, open_in, opened_then}
 use Rattle.typing_laws.specs.Opened.{mark_opened}
 
 -- a form has grown what is known, with such sites, and its answer has this
-abbrev pub Leaves : {A : Type 0} → Here → (List Stands → Type 0) → Passed → (A → Reached → Type 0) → After A → Type 0
+abbrev pub Leaves : {A : Type 0} → Here → (List Stood → Type 0) → Passed → (A → Reached → Type 0) → After A → Type 0
 Leaves here Has s Answers a = Grown here a.look s a.passed × Sited Has s a.passed × Answers a.answer (reached a.passed)
 
 -- from at least so far on, its answer has this with as many sites and types as there are then
-pub record Does (here : Here) (least : Reached) {A : Type 0} (Has : List Stands → Type 0) (p : Passing A)
+pub record Does (here : Here) (least : Reached) {A : Type 0} (Has : List Stood → Type 0) (p : Passing A)
     (Answers : A → Reached → Type 0) : Type 0 where
   pub does : (s : Passed) (a : After A) → p s ≡ Ok a → Fine here s → IsFurther least (reached s) → Leaves here Has s Answers a
 
@@ -61,7 +60,7 @@ abbrev pub Anything : {A : Type 0} → A → Reached → Type 0
 Anything answer now = Unit {0}
 
 -- no site
-abbrev pub Nothing : List Stands → Type 0
+abbrev pub Nothing : List Stood → Type 0
 Nothing added = added ≡ []
 
 -- ---- what an answer says of the parts
@@ -85,9 +84,9 @@ split_if false fault a b h = absurd cc
 
 -- ---- one after another
 
-pub joins : {here : Here} {least : Reached} {A B : Type 0} {First Second Both : List Stands → Type 0} {p : Passing A} {f : A → Passing B}
+pub joins : {here : Here} {least : Reached} {A B : Type 0} {First Second Both : List Stood → Type 0} {p : Passing A} {f : A → Passing B}
     {K : A → Reached → Type 0} {L : B → Reached → Type 0}
-    → ((a b : List Stands) → First a → Second b → Both (a ++ b)) → Does here least First p K
+    → ((a b : List Stood) → First a → Second b → Both (a ++ b)) → Does here least First p K
     → ((x : A) (now : Reached) → IsFurther least now → K x now → Does here now Second (f x) L) → Does here least Both (p >>= f) L
 joins {here} {least} {A} {B} {First} {Second} {Both} {p} {f} {K} {L} joined first rest = record {
   does = λ s b is fine h.
@@ -100,21 +99,21 @@ joins {here} {least} {A} {B} {First} {Second} {Both} {p} {f} {K} {L} joined firs
 }
 
 -- a step that adds no site, and then others
-pub quietly : {here : Here} {least : Reached} {A B : Type 0} {Has : List Stands → Type 0} {p : Passing A} {f : A → Passing B}
+pub quietly : {here : Here} {least : Reached} {A B : Type 0} {Has : List Stood → Type 0} {p : Passing A} {f : A → Passing B}
     {K : A → Reached → Type 0} {L : B → Reached → Type 0}
     → Does here least Nothing p K
     → ((x : A) (now : Reached) → IsFurther least now → K x now → Does here now Has (f x) L) → Does here least Has (p >>= f) L
 quietly {Has = Has} first rest = joins (λ a b none has. subst (λ l. Has (l ++ b)) (sym none) has) first rest
 
 -- a step, and then others that add no site
-pub last : {here : Here} {least : Reached} {A B : Type 0} {Has : List Stands → Type 0} {p : Passing A} {f : A → Passing B}
+pub last : {here : Here} {least : Reached} {A B : Type 0} {Has : List Stood → Type 0} {p : Passing A} {f : A → Passing B}
     {K : A → Reached → Type 0} {L : B → Reached → Type 0}
     → Does here least Has p K
     → ((x : A) (now : Reached) → IsFurther least now → K x now → Does here now Nothing (f x) L) → Does here least Has (p >>= f) L
 last {Has = Has} first rest = joins (λ a b has none. subst Has (sym (append-nil a) ∙ ap (λ l. a ++ l) (sym none)) has) first rest
 
 -- a form, and then a test of what it is, by the table of types
-pub checks_types : {here : Here} {least : Reached} {A B : Type 0} {Has : List Stands → Type 0} {p : Passing A} {test : List Form → A → Checked B}
+pub checks_types : {here : Here} {least : Reached} {A B : Type 0} {Has : List Stood → Type 0} {p : Passing A} {test : List Form → A → Checked B}
     {K : A → Reached → Type 0} {L : B → Reached → Type 0}
     → Does here least Has p K
     → ((types : List Form) (x : A) (b : B) (now : Reached) → IsFurther least now → now.types ≡ types → AreLawful types → test types x ≡ Ok b
@@ -132,7 +131,7 @@ checks_types {here} {least} {A} {B} {Has} {p} {test} {K} {L} first fits = record
 }
 
 -- whatever they are
-pub checks : {here : Here} {least : Reached} {A B : Type 0} {Has : List Stands → Type 0} {p : Passing A} {test : List Form → A → Checked B}
+pub checks : {here : Here} {least : Reached} {A B : Type 0} {Has : List Stood → Type 0} {p : Passing A} {test : List Form → A → Checked B}
     {K : A → Reached → Type 0} {L : B → Reached → Type 0}
     → Does here least Has p K
     → ((types : List Form) (x : A) (b : B) (now : Reached) → IsFurther least now → test types x ≡ Ok b → K x now → L b now)
@@ -140,8 +139,8 @@ pub checks : {here : Here} {least : Reached} {A B : Type 0} {Has : List Stands �
 checks first fits = checks_types first (λ types x b now later same lawful. fits types x b now later)
 
 -- the same, with something else that holds of its sites
-pub sited : {here : Here} {least : Reached} {A : Type 0} {Has Had : List Stands → Type 0} {p : Passing A} {K : A → Reached → Type 0}
-    → ((a : List Stands) → Has a → Had a)
+pub sited : {here : Here} {least : Reached} {A : Type 0} {Has Had : List Stood → Type 0} {p : Passing A} {K : A → Reached → Type 0}
+    → ((a : List Stood) → Has a → Had a)
     → Does here least Has p K → Does here least Had p K
 sited has d = record {
   does = λ s a is fine h.
@@ -150,7 +149,7 @@ sited has d = record {
 }
 
 -- the same, with something else that holds of its answer
-pub answered : {here : Here} {least : Reached} {A : Type 0} {Has : List Stands → Type 0} {p : Passing A} {K L : A → Reached → Type 0}
+pub answered : {here : Here} {least : Reached} {A : Type 0} {Has : List Stood → Type 0} {p : Passing A} {K L : A → Reached → Type 0}
     → ((x : A) (now : Reached) → K x now → L x now)
     → Does here least Has p K → Does here least Has p L
 answered other d = record {
@@ -160,7 +159,7 @@ answered other d = record {
 }
 
 -- and what has come so far
-pub further_answered : {here : Here} {least : Reached} {A : Type 0} {Has : List Stands → Type 0} {p : Passing A} {K L : A → Reached → Type 0}
+pub further_answered : {here : Here} {least : Reached} {A : Type 0} {Has : List Stood → Type 0} {p : Passing A} {K L : A → Reached → Type 0}
     → Does here least Has p K → ((x : A) (now : Reached) → IsFurther least now → K x now → L x now) → Does here least Has p L
 further_answered d other = record {
   does = λ s a is fine h.
@@ -168,10 +167,11 @@ further_answered d other = record {
       (k.0, k.1, other a.answer (reached a.passed) (further_still h (further k.0.way)) k.2);
 }
 
--- ---- steps that add no site
+-- ---- steps that add no site and no point
 
-pub no_sites : {s new : Passed} → new.sites ≡ s.sites → Sited Nothing s new
-no_sites {s} is = record { added = []; sites = is ∙ sym (append-nil s.sites); covered = refl }
+pub no_sites : {s new : Passed} → new.sites ≡ s.sites → new.points ≡ s.points → Sited Nothing s new
+no_sites {s} sites points =
+    record { added = []; sites = sites ∙ sym (append-nil s.sites); points = points ∙ sym (append-nil s.points); covered = refl }
 
 -- without a mark
 pub grown_plain : {here : Here} {s new : Passed} → Way true Nobody 0 0 [] s new → AreLawful new.types → AreTexts new.texts
@@ -187,14 +187,14 @@ grown_plain way lawful texts = record {
   opened = refl;
 }
 
--- a step that leaves the types, the texts and the sites
+-- a step that leaves the types, the texts, the sites and the points
 pub silent_leaves : {here : Here} {A : Type 0} (K : A → Reached → Type 0) {s new : Passed} {x : A} {a : After A} → after x [] new ≡ a
-    → Way true Nobody 0 0 [] s new → new.types ≡ s.types → new.texts ≡ s.texts → new.sites ≡ s.sites → Fine here s
+    → Way true Nobody 0 0 [] s new → new.types ≡ s.types → new.texts ≡ s.texts → new.sites ≡ s.sites → new.points ≡ s.points → Fine here s
     → K x (reached new) → Leaves here Nothing s K a
-silent_leaves {here} K {s = s} same way types texts sites fine known =
+silent_leaves {here} K {s = s} same way types texts sites points fine known =
     subst (Leaves here Nothing s K) same (
       grown_plain way (subst AreLawful (sym types) fine.lawful) (subst AreTexts (sym texts) fine.texts),
-      no_sites sites,
+      no_sites sites points,
       known,
     )
 
@@ -203,13 +203,13 @@ unfolding pass
 pass_does place = record {
   does = λ s a is fine h.
       let same : after tt [] (record s { latest = place }) ≡ a = cc in
-      silent_leaves Anything same (One (Token place)) refl refl refl fine tt;
+      silent_leaves Anything same (One (Token place)) refl refl refl refl fine tt;
 }
 
 pub pure_does : {here : Here} {least : Reached} {A : Type 0} {K : A → Reached → Type 0} (x : A)
     → ((now : Reached) → IsFurther least now → K x now) → Does here least Nothing (pure x) K
 pure_does {K = K} x known = record {
-  does = λ s a is fine h. let same : after x [] s ≡ a = cc in silent_leaves K same Stay refl refl refl fine (known (reached s) h);
+  does = λ s a is fine h. let same : after x [] s ≡ a = cc in silent_leaves K same Stay refl refl refl refl fine (known (reached s) h);
 }
 
 pub given_does : {here : Here} {least : Reached} {A : Type 0} (checked : Checked A)
@@ -218,7 +218,7 @@ given_does checked = record {
   does = λ s a is fine h.
       let x = split checked (λ b. Ok (after b [] s)) a is in
       let same : after x.0 [] s ≡ a = cc in
-      silent_leaves (λ x now. checked ≡ Ok x) same Stay refl refl refl fine x.1;
+      silent_leaves (λ x now. checked ≡ Ok x) same Stay refl refl refl refl fine x.1;
 }
 
 pub by_types_does : {here : Here} {least : Reached} {A : Type 0} (test : List Form → Checked A)
@@ -227,10 +227,10 @@ by_types_does test = record {
   does = λ s a is fine h.
       let x = split (test s.types) (λ b. Ok (after b [] s)) a is in
       let same : after x.0 [] s ≡ a = cc in
-      silent_leaves (λ x now. AreLawful now.types × (test now.types ≡ Ok x)) same Stay refl refl refl fine (fine.lawful, x.1);
+      silent_leaves (λ x now. AreLawful now.types × (test now.types ≡ Ok x)) same Stay refl refl refl refl fine (fine.lawful, x.1);
 }
 
-pub fail_does : {here : Here} {least : Reached} {A : Type 0} {Has : List Stands → Type 0} {K : A → Reached → Type 0} (why : TypeFault)
+pub fail_does : {here : Here} {least : Reached} {A : Type 0} {Has : List Stood → Type 0} {K : A → Reached → Type 0} (why : TypeFault)
     → Does here least Has (fail {A = A} why) K
 fail_does why = record { does = λ s a is fine h. absurd cc }
 
@@ -251,7 +251,7 @@ find_does {here} name = record {
       let x = split (told name.place (found s.regions text)) (λ denotation. Ok (after denotation [] (record s { latest = name.place }))) a is in
       let same : after x.0 [] (record s { latest = name.place }) ≡ a = cc in
       let there = found_holds (IsSound here s.variables s.types (heads_of (reached s))) s.regions text x.0 fine.sound (by (found s.regions text) x.0 x.1) in
-      silent_leaves (IsFound here) same (One (Token name.place)) refl refl refl fine (there, fine.stands);
+      silent_leaves (IsFound here) same (One (Token name.place)) refl refl refl refl fine (there, fine.stands);
 }
   where
     by : (r : Result Denotation ScopeFault) (d : Denotation) → told name.place r ≡ Ok d → r ≡ Ok d
@@ -263,7 +263,7 @@ unfolding wants_file
 wants_file_does {here} one place = record {
   does = λ s a is fine h.
       let x = split_if (has_file one s) (fault.NotProgramParameter place) (after tt [] s) a is in
-      silent_leaves Anything x.1 Stay refl refl refl fine tt;
+      silent_leaves Anything x.1 Stay refl refl refl refl fine tt;
 }
 
 -- ---- marks
@@ -299,7 +299,7 @@ marked_does {here} {least} one none plain opens changes no_control formed = reco
           spared = λ roots held. one_mark one roots plain (all_apart here s roots (mark_changes one) held (changes (reached s) h));
           opened = one_opened one (open_in here) (open_in here) opens;
         },
-        no_sites refl,
+        no_sites refl refl,
         tt,
       );
 }
@@ -352,7 +352,7 @@ enter_does {here} {least} marked entry no_change plain opens formed = record {
           spared = λ roots held. one_mark (marked number) roots (plain number) (ap (list_all (is_none_of roots)) (no_change number));
           opened = one_opened (marked number) (open_in here) (open_in here) (opens number);
         },
-        no_sites refl,
+        no_sites refl refl,
         tt,
       );
 }
@@ -396,7 +396,7 @@ enter_loop_at {here} marked loop plain opens s a changes controls formed fine is
                 one_mark made roots (plain s.entries s.loops) (all_apart here s roots (mark_changes made) held (changes s.entries s.loops));
             opened = one_opened made (open_in here) (open_in here) (opens s.entries s.loops);
           },
-          no_sites refl,
+          no_sites refl refl,
           tt,
         )
 
@@ -454,7 +454,7 @@ may_change_does {here} {least} place root type_id known = record {
         → Leaves here Nothing s (λ _ now. MayChange here now root)
         (after (tt {0}) [] (if test then s else record s { threatened = with_one s.threatened root }))
     by s true own fine there apart =
-        silent_leaves (λ (_ : Unit {0}) now. MayChange here now root) refl Stay refl refl refl fine (record {
+        silent_leaves (λ (_ : Unit {0}) now. MayChange here now root) refl Stay refl refl refl refl fine (record {
           variable = known.variable;
           is_there = there;
           is_visible = known.is_visible;
@@ -462,7 +462,7 @@ may_change_does {here} {least} place root type_id known = record {
           apart = apart;
         })
     by s false own fine there apart =
-        silent_leaves (λ (_ : Unit {0}) now. MayChange here now root) refl (One (Threat root)) refl refl refl fine (record {
+        silent_leaves (λ (_ : Unit {0}) now. MayChange here now root) refl (One (Threat root)) refl refl refl refl fine (record {
           variable = known.variable;
           is_there = there;
           is_visible = known.is_visible;
@@ -472,7 +472,7 @@ may_change_does {here} {least} place root type_id known = record {
 
 -- a control variable is one of the variable declaration part of the block that no other block threatened, and its for
 -- statement begins
-pub controlled_does : {here : Here} {least : Reached} {B : Type 0} {Has : List Stands → Type 0} {L : B → Reached → Type 0} (place : Place) (root : ℕ)
+pub controlled_does : {here : Here} {least : Reached} {B : Type 0} {Has : List Stood → Type 0} {L : B → Reached → Type 0} (place : Place) (root : ℕ)
     (marked : ℕ → ℕ → Mark) (rest : Passing B) → ((k l : ℕ) → numbers_of (marked k l) ≡ (k ∷ [], l ∷ [], []))
     → ((k l : ℕ) → mark_changes (marked k l) ≡ root ∷ [])
     → ((k l : ℕ) → mark_controls (marked k l) ≡ root ∷ []) → ((k l : ℕ) → is_bracket (marked k l) ≡ false)
@@ -645,7 +645,7 @@ fine_inside s controls fine = record {
 }
 
 -- the statement of a for changes neither its control variable nor one of those round it
-pub for_body_does : {here : Here} {least : Reached} {Has : List Stands → Type 0} (root : ℕ) (body : Passing (Unit {0}))
+pub for_body_does : {here : Here} {least : Reached} {Has : List Stood → Type 0} (root : ℕ) (body : Passing (Unit {0}))
     → ((next : Reached) → Does here next Has body Anything) → Does here least Has (for_body root body) Anything
 unfolding for_body begin_control end_control
 for_body_does {here} {least} {Has} root body law = record {
@@ -663,7 +663,7 @@ for_body_does {here} {least} {Has} root body law = record {
       ap (λ (e : After (Unit {0})). after e.answer (Controls root ∷ e.look) e.passed) ended ∙ y.2 ∙ x.2 in
       let one = (law (reached start)).does start b z.1 (fine_inside s (s.controls ++ root ∷ []) fine) as_far in
       subst (Leaves here Has s Anything) whole
-      (grown_bracketed root b.look s b.passed one.0, record { added = one.1.added; sites = one.1.sites; covered = one.1.covered }, tt);
+      (grown_bracketed root b.look s b.passed one.0, record { added = one.1.added; sites = one.1.sites; points = one.1.points; covered = one.1.covered }, tt);
 }
   where
     ok_same : {b c : After (Unit {0})} → ◌≡◌ {A = Checked (After (Unit {0}))} (Ok b) (Ok c) → b ≡ c
@@ -685,7 +685,7 @@ unfolding enclosing_now
 enclosing_now_does {here} = record {
   does = λ s a is fine h.
       let same : after s.enclosing [] s ≡ a = cc in
-      silent_leaves (λ (e : Enclosing) now. (e.block ≡ here.block) × (e.around ≡ here.around)) same Stay refl refl refl fine (fine.block, fine.around);
+      silent_leaves (λ (e : Enclosing) now. (e.block ≡ here.block) × (e.around ≡ here.around)) same Stay refl refl refl refl fine (fine.block, fine.around);
 }
 
 -- the heading of a block that was passed tells what is so
@@ -698,7 +698,7 @@ heading_at_does {here} block signature there = record {
       let at = get_mapped signature_passed s.headings block signature known in
       let found : get_or s.headings block program_heading ≡ at.0 = get_or_is s.headings block program_heading at.0 at.1 in
       let same : after (get_or s.headings block program_heading) [] s ≡ a = cc in
-      silent_leaves (λ headed now. (signature_passed headed ≡ signature) × FitsHeading now block signature) same Stay refl refl refl fine
+      silent_leaves (λ headed now. (signature_passed headed ≡ signature) × FitsHeading now block signature) same Stay refl refl refl refl fine
       (ap signature_passed found ∙ at.2, fine.fit.fits block signature known);
 }
 
@@ -708,7 +708,7 @@ unfolding variable_at
 variable_at_does {here} root = record {
   does = λ s a is fine h.
       let same : after (slice_get s.variables root) [] s ≡ a = cc in
-      silent_leaves (λ found now. slice_get now.variables root ≡ found) same Stay refl refl refl fine refl;
+      silent_leaves (λ found now. slice_get now.variables root ≡ found) same Stay refl refl refl refl fine refl;
 }
 
 -- a result is assigned, and then its target is told
@@ -747,7 +747,7 @@ unfolding text_at
 text_at_does {here} {least} number = record {
   does = λ s a is fine h.
       let same : after (get_or s.texts number []) [] s ≡ a = cc in
-      silent_leaves (λ text now. are_characters text ≡ true) same Stay refl refl refl fine (fine.texts number);
+      silent_leaves (λ text now. are_characters text ≡ true) same Stay refl refl refl refl fine (fine.texts number);
 }
 
 pub keep_text_does : {here : Here} {least : Reached} (text : List ℕ) → are_characters text ≡ true
@@ -758,38 +758,39 @@ keep_text_does {here} {least} text is_text = record {
       let new : Passed = record s { texts = s.texts ++ text ∷ [] } in
       let same : after (length s.texts) [] new ≡ a = cc in
       subst (Leaves here Nothing s Anything) same
-      (grown_plain (One (Text text)) fine.lawful (texts_more s.texts text fine.texts is_text), no_sites refl, tt);
+      (grown_plain (One (Text text)) fine.lawful (texts_more s.texts text fine.texts is_text), no_sites refl refl, tt);
 }
 
 -- ---- sites
 
 pub site_does : {here : Here} {least : Reached} (kind : SiteKind) (place : Place)
-    → Does here least (λ added. added ≡ (kind, place) ∷ []) (site kind place) (λ id now. id < now.sites)
+    → Does here least (λ added. added ≡ (Some kind, place) ∷ []) (site kind place) (λ id now. id < now.sites)
 unfolding site
 site_does {here} {least} kind place = record {
   does = λ s a is fine h.
       let new : Passed = record s { sites = s.sites ++ (kind, place) ∷ []; latest = place } in
       let y = split_unless (nat_le most_sites (length s.sites)) (fault.TooMany place) (after (length s.sites) [] new) a is in
       let counted = length-append s.sites ((kind, place) ∷ []) in
-      subst (Leaves here (λ added. added ≡ (kind, place) ∷ []) s (λ id now. id < now.sites)) y.1 (
+      subst (Leaves here (λ added. added ≡ (Some kind, place) ∷ []) s (λ id now. id < now.sites)) y.1 (
         grown_plain (One (Site kind place (below most_sites (length s.sites) y.0))) fine.lawful fine.texts,
-        record { added = (kind, place) ∷ []; sites = refl; covered = refl },
+        record { added = (Some kind, place) ∷ []; sites = refl; points = sym (append-nil s.points); covered = refl },
         omega (arith, counted),
       );
 }
 
 -- ---- points
 
-pub point_does : {here : Here} {least : Reached} (place : Place) → Does here least Nothing (point place) (λ id now. id < now.points)
+pub point_does : {here : Here} {least : Reached} (place : Place)
+    → Does here least (λ added. added ≡ (None, place) ∷ []) (point place) (λ id now. id < now.points)
 unfolding point
 point_does {here} {least} place = record {
   does = λ s a is fine h.
       let new : Passed = record s { points = s.points ++ place ∷ []; latest = place } in
       let y = split_unless (nat_le most_sites (length s.points)) (fault.TooMany place) (after (length s.points) [] new) a is in
       let counted = length-append s.points (place ∷ []) in
-      subst (Leaves here Nothing s (λ id now. id < now.points)) y.1 (
+      subst (Leaves here (λ added. added ≡ (None, place) ∷ []) s (λ id now. id < now.points)) y.1 (
         grown_plain (One (Point place (below most_sites (length s.points) y.0))) fine.lawful fine.texts,
-        no_sites refl,
+        record { added = (None, place) ∷ []; sites = sym (append-nil s.sites); points = refl; covered = refl },
         omega (arith, counted),
       );
 }

@@ -184,7 +184,7 @@ module _ {here : Here} {least : Reached} where
     does = λ s a is fine h.
         let made = string_type_is place n s a more fine.lawful is in
         subst (Leaves here Nothing s (λ id now. IsStringOf n id now.types)) made.same
-        (grown_plain made.way made.lawful fine.texts, no_sites refl, (made.few, made.string));
+        (grown_plain made.way made.lawful fine.texts, no_sites refl refl, (made.few, made.string));
   }
 
 -- ---- constants

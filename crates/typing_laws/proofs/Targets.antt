@@ -161,7 +161,7 @@ module _ (here : Here) where
             let denoted = entire_denoted here r.root r.type_id (reached s) target.0 target.1 in
             let k = (access_does {least = reached s} name [] places ws laws variable denoted).does start a goes (fine_with_result s r.root fine) as_far in
             let told = IfOk-at_ok (λ (b : After Accessed). is_target b.look r.root ≡ true) goes ((access_told name [] ws variable).walks start) in
-            (grown_assigned r.root told k.0, record { added = k.1.added; sites = k.1.sites; covered = k.1.covered }, k.2);
+            (grown_assigned r.root told k.0, record { added = k.1.added; sites = k.1.sites; points = k.1.points; covered = k.1.covered }, k.2);
       }
         where
           made_is : {v : After (ℕ × TypeId)} {w : After Denoted} {r : ℕ × TypeId} {t : Passed} → after r [] t ≡ v

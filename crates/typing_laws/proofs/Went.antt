@@ -277,6 +277,7 @@ no_mark (Then first second) = ap₂ (λ a b. a ++ b) (no_mark first) (no_mark se
 -- they leave what is known of statements and of other blocks
 pub record Silent (counted : ℕ) (old new : Passed) : Type 0 where
   pub sites : new.sites ≡ old.sites
+  pub points : new.points ≡ old.points
   pub threatened : new.threatened ≡ old.threatened
   pub headings : new.headings ≡ old.headings
   pub records : new.records ≡ old.records
@@ -286,6 +287,7 @@ pub record Silent (counted : ℕ) (old new : Passed) : Type 0 where
 silent_step : {counted from to : ℕ} {look : Look} {old new : Passed} → Step false (Of counted) from to look old new → Silent counted old new
 silent_step {old = old} (Declare variable cells owns) = record {
   sites = refl;
+  points = refl;
   threatened = refl;
   headings = refl;
   records = refl;
@@ -294,6 +296,7 @@ silent_step {old = old} (Declare variable cells owns) = record {
 }
 silent_step other = record {
   sites = refl;
+  points = refl;
   threatened = refl;
   headings = refl;
   records = refl;
@@ -304,6 +307,7 @@ silent_step other = record {
 pub silent : {counted from to : ℕ} {look : Look} {old new : Passed} → Way false (Of counted) from to look old new → Silent counted old new
 silent Stay = record {
   sites = refl;
+  points = refl;
   threatened = refl;
   headings = refl;
   records = refl;
@@ -316,6 +320,7 @@ silent (Then first second) =
     let g = silent second in
     record {
       sites = g.sites ∙ f.sites;
+      points = g.points ∙ f.points;
       threatened = g.threatened ∙ f.threatened;
       headings = g.headings ∙ f.headings;
       records = g.records ∙ f.records;

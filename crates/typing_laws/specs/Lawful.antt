@@ -1,15 +1,16 @@
 -- What a typed program has: by how its typed tree looks, and by what is known behind it. It says nothing of what the
 -- program does.
 use Rattle.std.specs.Prelude.{◌≡◌, ℕ, ◌<◌, ◌≤◌, List, [], ◌∷◌, Option, Some, true, IsPermutation, nat_lt, length}
-use Rattle.std.specs.Prelude.{slice_get, Ok}
+use Rattle.std.specs.Prelude.{slice_get, Contains, Ok}
 use Rattle.std.specs.List.{range_with_len, list_all}
+use Rattle.place.specs.declared.Place.{Place}
 use Rattle.place.specs.Place.{ArePlacesInOrder}
 use Rattle.syntax_tree.specs.declared.Program.{Program}
 use Rattle.syntax_tree.specs.Places.{program_places}
 use Rattle.types.specs.Types.{BeginWithRequired}
 use Rattle.typed_tree.specs.declared.tree.FunctionResult.{FunctionResult}
 use Rattle.typed_tree.specs.declared.tree.Heading.{Heading}
-use Rattle.typed_tree.specs.Ids.{AreByPlace}
+use Rattle.typed_tree.specs.Ids.{AreByPlace, Stands}
 use Rattle.typed_tree.specs.Look.{Look, Mark, BlockEnds, entries_of_look, loops_of_look, blocks_of_look, are_formed}
 use Rattle.typed_tree.specs.WellFormed.{Outline, most_entries, most_variables, are_few_cells, is_heading}
 use Rattle.typing.specs.Passing.{After}
@@ -77,6 +78,9 @@ pub record Lawful (program : Program) (a : After (Unit {0})) : Type 0 where
   pub declared : list_all (λ variable. nat_lt variable.block (length a.passed.headings)) a.passed.variables ≡ true
   pub few_sites : length a.passed.sites ≤ most_sites
   pub few_points : length a.passed.points ≤ most_sites
+  -- each stands at a place that the program's tree keeps
+  pub sites_there : (site : Stands) → Contains a.passed.sites site → Contains (program_places program) site.1
+  pub points_there : (point : Place) → Contains a.passed.points point → Contains (program_places program) point
   pub types : BeginWithRequired a.passed.types
   -- its sites stand by place and then by kind, if its places stand in order
   pub by_place : ArePlacesInOrder (program_places program) → AreByPlace a.passed.sites
