@@ -38,10 +38,10 @@ pub fn write(alloc: Global, certificate: &Certificate) -> Result<Vec<u8>, AllocE
         Version::One => writer.append(b"pcert 1\n"),
     }
     writer.sections(&certificate.sections);
-    if let Some(error) = writer.refused {
-        return Err(error);
+    match writer.refused {
+        Some(error) => Err(error),
+        None => Ok(writer.text),
     }
-    Ok(writer.text)
 }
 
 /// Reads again what is written of a certificate.

@@ -36,10 +36,10 @@ impl Code {
         writer.points(&self.points);
         writer.instructions(&targets, &self.instructions);
         writer.append(b"end\n");
-        if let Some(error) = writer.refused {
-            return Err(error);
+        match writer.refused {
+            Some(error) => Err(error),
+            None => Ok(writer.text),
         }
-        Ok(writer.text)
     }
 }
 

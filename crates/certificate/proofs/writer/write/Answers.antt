@@ -5,14 +5,14 @@ use Rattle.certificate.specs.Writing.{section_text}
 use Rattle.certificate.proofs.Written.{written}
 use Rattle.certificate.proofs.writer.write.Goals as goal
 
-pub returns-clause-exact : goal.returns-clause-exact
-returns-clause-exact c =
+pub returns-in-None-clause-exact : goal.returns-in-None-clause-exact
+returns-in-None-clause-exact c =
     let certificate = c.args.certificate.now in
     let front = c.append.new.self.text.items in
-    let more = c.sections.ensures c.if-writer.false in
+    let more = c.sections.ensures c.in-None.is in
     written certificate.version (contents certificate) front _
     ((c.append.ensures more.0).1 ∙ ap (λ text. text ++ ended (codes "pcert 1")) c.new.ensures.items)
     (more.1 ∙ ap (λ sections. front ++ flat_map section_text (map section_of sections)) c.deref.ensures.value)
 
-pub returns-clause-spells : goal.returns-clause-spells
-returns-clause-spells c in_order = record { in_order = in_order; text_is = returns-clause-exact c }
+pub returns-in-None-clause-spells : goal.returns-in-None-clause-spells
+returns-in-None-clause-spells c in_order = record { in_order = in_order; text_is = returns-in-None-clause-exact c }
