@@ -1,4 +1,4 @@
-ghost use Rattle.std.specs.Prelude.{◌≡◌, ℕ, ◌+◌, ◌*◌, ◌<◌, ◌≤◌, ◌^◌, [], ◌∷◌, ◌++◌, length, decimal, codes, IfOk};
+ghost use Rattle.std.specs.Prelude.{◌≡◌, ℕ, ◌+◌, ◌*◌, ◌<◌, ◌≤◌, ◌^◌, [], ◌∷◌, ◌++◌, length, decimal, codes, IfOk, IsOk};
 ghost use Rattle.std.specs.List.{flat_map};
 ghost use Rattle.report_text.specs.declared.text.TheConstants.{LINE_SIZE};
 ghost use Rattle.report_text.specs.Text.{name_size, number_size, place_text, open_line, refusal_of, refusal_line};
@@ -29,7 +29,9 @@ pub type Line = SmallVec<u8, LINE_SIZE>;
 
 /// The lines of open sites, one for each, in order: `LINE:COLUMN: possible error: NAME`.
 pub fn open_lines(alloc: Global, open_sites: &[Site]) -> Result<Vec<u8>, AllocError>
-    ensures { IfOk result (λ text. text.items ≡ flat_map open_line open_sites.now) }
+    ensures lines { IfOk result (λ text. text.items ≡ flat_map open_line open_sites.now) }
+    // Where nothing is open nothing grows.
+    ensures nothing { open_sites.now ≡ [] → IsOk result }
 {
     let mut text = Vec::new(alloc);
     for site in open_sites {

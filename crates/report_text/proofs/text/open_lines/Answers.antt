@@ -23,5 +23,5 @@ loop-site-preserved c =
     ∙ ap (λ line. flat_map open_line (take c.loop-site.site-index sites) ++ line) c.as_slice-in-loop-site.ensures
     ∙ one_more open_line sites c.loop-site.site-index _ c.open_site.result.items c.open_site.ensures c.loop-site-test.true
 
-pub returns : goal.returns
-returns c = c.loop-site.invariant ∙ ap (flat_map open_line) (take_all c.loop-site.site-index c.args.open_sites.now c.loop-site-test.false)
+pub returns-clause-lines : goal.returns-clause-lines
+returns-clause-lines c = c.loop-site.invariant ∙ ap (flat_map open_line) (take_all c.loop-site.site-index c.args.open_sites.now c.loop-site-test.false)
