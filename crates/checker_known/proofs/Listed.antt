@@ -25,7 +25,7 @@ use Rattle.checker_state.specs.View.{bound_by, held_by, inner_spans, said_bound,
 use Rattle.checker_known.specs.declared.resting.Resting.{Resting}
 use Rattle.checker_known.specs.Resting.{AreListed, IsListed, Lists, ListsMore, Puts, has, is_left, listed, root_of}
 use Rattle.checker_state.proofs.HeldOrders.{held-same}
-use Rattle.std.specs.Bool.{OnTrue}
+use Rattle.std.specs.Prelude.{Result, Ok, Err, OnOk, is_ok}
 use Rattle.checker_known.proofs.HeldLists.{said_all}
 use Rattle.checker_known.proofs.InOrder.{held-turned}
 
@@ -364,9 +364,9 @@ whole-less held less a was among whole = λ other has. was whole other (among ot
 
 -- ---- one more in a list
 
-pub puts-pushed : (one : KeptHeld) (list new : List KeptHeld) (done : Bool) → new ≡ cond done (list ++ one ∷ []) list
-    → OnTrue done (Puts (said_held one) (said_all list) (said_all new))
-puts-pushed one list new true is =
+pub puts-pushed : {T E : Type 0} (one : KeptHeld) (list new : List KeptHeld) (done : Result T E)
+    → new ≡ cond (is_ok done) (list ++ one ∷ []) list → OnOk done (Puts (said_held one) (said_all list) (said_all new))
+puts-pushed one list new (Ok _) is =
     let all : said_all new ≡ said_all list ++ said_held one ∷ [] = ap said_all is ∙ map-append said_held list (one ∷ []) in
     record {
       there = subst (λ (some : List Held). Contains some (said_held one)) (sym all)
@@ -374,7 +374,7 @@ puts-pushed one list new true is =
       keeps = λ other has.
           subst (λ (some : List Held). Contains some other) (sym all) (Contains-append_left (said_all list) (said_held one ∷ []) other has);
     }
-puts-pushed one list new false is = tt
+puts-pushed one list new (Err _) is = tt
 
 pub puts-same : (one : Held) (list : List Held) → Contains list one → Puts one list list
 puts-same one list there = record { there = there; keeps = λ other has. has }

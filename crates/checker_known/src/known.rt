@@ -1,4 +1,4 @@
-ghost use Rattle.std.specs.Prelude.{◌≡◌, map, true};
+ghost use Rattle.std.specs.Prelude.{◌≡◌, OnOk, map, true};
 ghost use Rattle.std.specs.Bool.{OnTrue};
 ghost use Rattle.checker_state.specs.View.{said_held};
 ghost use Rattle.checker_known.specs.Knots.{AreCounted};

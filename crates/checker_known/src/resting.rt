@@ -115,12 +115,13 @@ impl Resting {
     {
         match self.lists.get_mut(root as usize) {
             None => self.is_whole = false,
-            Some(list) => {
-                if let Err(error) = put(list, held) {
+            Some(list) => match put(list, held) {
+                Ok(()) => {}
+                Err(error) => {
                     self.is_whole = false;
                     self.refused = Some(error.into());
                 }
-            }
+            },
         }
     }
 }

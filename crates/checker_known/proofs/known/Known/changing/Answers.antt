@@ -11,9 +11,9 @@ returns-clause-places c =
     let known = c.args.self.now in
     let lists = known.resting.lists.items in
     let root = c.root_of-root.result in
-    let places = c.in-Ok.places.items in
+    let places = c.in_ok-places.places.items in
     changing-at c.args.how root lists (said_all known.held.items) places c.root_of-root.ensures (known.all_listed c.if-not-self.false)
     (subst (λ (list : List Held). HaveAll list (said_all known.held.items) places)
     (ap said_all c.deref.ensures.value
     ∙ listed-there lists root c.index.result.now (omega (arith, c.if-root-len.false, c.len.ensures)) c.index.ensures)
-    c.in-Ok.ensures)
+    c.in_ok-places.ensures)
