@@ -170,5 +170,6 @@ fn laws_are_called(_rt: HostRuntime) -> Result<(), Fail> {
     laws::runs_compose();
     laws::output_only_grows();
     laws::runs_on_bytes();
+    laws::read_failures_begin();
     Ok(())
 }

@@ -14,5 +14,6 @@ pub mod Obeying
 pub mod Running
 pub mod Finishing
 pub mod Growing
+mod Failing
 pub mod Seen
 pub mod Standing
