@@ -25,9 +25,12 @@ enum Loss {
     Facts,
 }
 
-// A certificate, or what is left of it, as far as the checker accepts it; else that without facts which lists all. It
-// counts the refusals.
-pub(crate) fn accepted(
+/// A certificate, or what is left of it, as far as the checker accepts it; else that without facts which lists all. It
+/// counts the refusals.
+///
+/// # Errors
+/// No memory.
+pub fn accepted(
     alloc: Global,
     tree: &Tree,
     certificate: Certificate,

@@ -6,7 +6,7 @@ ghost use Rattle.certificate.specs.Contents.{are_in_order, contents};
 ghost use Rattle.cert_checker.specs.Promise.{IsAccepted};
 ghost use Rattle.typed_tree.specs.WellFormed.{IsWellFormed};
 
-mod accepting;
+pub mod accepting;
 mod analysis;
 mod calls;
 mod implied;

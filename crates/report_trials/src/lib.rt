@@ -3,6 +3,8 @@
 #![tactic(auto)]
 
 #[cfg(test)]
+mod accepting;
+#[cfg(test)]
 mod agreeing;
 #[cfg(test)]
 mod feeding;
