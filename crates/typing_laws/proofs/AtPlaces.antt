@@ -1,5 +1,6 @@
 -- Each site and each point of a form stands at one of its places.
-use Rattle.std.proofs.Common.{◌≡◌, ◌⊎◌, inl, inr, ℕ, zero, suc, ◌<◌, List, [], ◌∷◌, ◌++◌, Option, None, Some, length, slice_index_or, Contains, refl, sym, subst, arith}
+use Rattle.std.proofs.Common.{◌≡◌, ◌⊎◌, inl, inr, ℕ, zero, suc, ◌<◌, List, [], ◌∷◌, ◌++◌, Option, None, Some, length, slice_index_or}
+use Rattle.std.proofs.Common.{Contains, refl, sym, subst, arith}
 use Rattle.place.specs.declared.Place.{Place}
 use Rattle.typed_tree.specs.declared.site.SiteKind.{SiteKind}
 use Rattle.typed_tree.specs.Ids.{Stands}

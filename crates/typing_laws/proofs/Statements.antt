@@ -63,7 +63,8 @@ use Rattle.typing.specs.Statements.{for_loop, case_arms, case_head, case_body, c
 use Rattle.typing_laws.proofs.Opened.{open_in, stands_there}
 use Rattle.typing_laws.proofs.Tables.{has_kind, is_string_longer, is_structured_longer, kind_longer, ordinal_held}
 use Rattle.typing_laws.proofs.Copies.{IsCopyFor, copy_formed, copying_there}
-use Rattle.typing_laws.proofs.Covers.{ArePointsAt, Stood, Covers, no_point, one_point, points_first, covers_any, covers_both, covers_none, covers_behind, covers_more, covers_skip, covers_lower, leads_first}
+use Rattle.typing_laws.proofs.Covers.{ArePointsAt, Stood, Covers, no_point, one_point, points_first, covers_any, covers_both, covers_none}
+use Rattle.typing_laws.proofs.Covers.{covers_behind, covers_more, covers_skip, covers_lower, leads_first}
 use Rattle.typing_laws.proofs.Grown.{heads_of, both_true}
 use Rattle.typing_laws.proofs.Reached.{Reached, whole_of, IsFurther, further_still, Here, StandsIn, get_longer}
 use Rattle.typing_laws.proofs.Sound.{IsRoutine, IsVariable, variable_later}
