@@ -15,13 +15,14 @@ pub(crate) struct Ready {
 }
 
 impl Ready {
-    /// Makes both, with a machine of so many cells.
+    /// Makes both, the machine, which has so many cells, last: nothing behind it takes memory but the files that are
+    /// written.
     pub(crate) fn for_code(alloc: Global, code: &Code, cells: u32) -> Result<Ready, AllocError>
         requires { (1 ≤ cells) × (cells ≤ 16777216) }
         ensures { IfOk result (IsReady code.now cells) }
     {
-        let machine = Machine::new(alloc, cells)?;
         let steps = prepare(alloc, code)?;
+        let machine = Machine::new(alloc, cells)?;
         Ok(Ready { machine, steps })
     }
 }
