@@ -10,7 +10,7 @@ use Rattle.types.specs.declared.form.TypeKind.{TypeKind}
 use Rattle.types.specs.declared.form.TypeKind.TheVariants as kind_of_type
 use Rattle.typed_tree.specs.declared.tree.Scalar.TheVariants as scalar
 use Rattle.typed_tree.specs.declared.fault.TypeFault.TheVariants.{TooMany}
-use Rattle.typed_tree.specs.WellFormed.{most_entries}
+use Rattle.typed_tree.specs.WellFormed.{most_entries, most_numbered}
 use Rattle.typing.proofs.Ways.{Goes, Walks}
 use Rattle.typing.specs.Passing.{Passed, after}
 use Rattle.typing.specs.Steps.{begin_loop, enter, may_change, number_loop}
@@ -42,10 +42,18 @@ enter_keeps = record { walks = λ old. by old (nat_le most_entries old.entries) 
     by old true = tt
     by old false = λ id. refl
 
+number_keeps : Keeps number_loop
+number_keeps = record { walks = λ old. by old (nat_le most_numbered old.loops) }
+  where
+    by : (old : Passed) (test : Bool)
+        → Goes Alike old (if test then Err (TooMany old.latest) else Ok (after old.loops [] (record old { loops = old.loops + 1 })))
+    by old true = tt
+    by old false = λ id. refl
+
 loop_keeps : Keeps begin_loop
 unfolding begin_loop
 loop_keeps =
-    then_keeps enter_keeps λ number. then_keeps {p = number_loop} (record { walks = λ old id. refl }) λ loop_number. pure_keeps (number, loop_number)
+    then_keeps enter_keeps λ number. then_keeps {p = number_loop} number_keeps λ loop_number. pure_keeps (number, loop_number)
 
 pub loop_alike : (numbers : ℕ × ℕ) (old new : Passed) → begin_loop old ≡ Ok (after numbers [] new) → AreTestedAlike old.types new.types
 loop_alike numbers old new passes = IfOk-at_ok (λ a. AreTestedAlike old.types a.passed.types) passes (loop_keeps.walks old)

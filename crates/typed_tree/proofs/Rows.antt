@@ -103,16 +103,25 @@ module _ (tree : Tree) where
       ∙ ap₂ (λ a b. a ++ b) (numbers_at number (block_at number)) (all_numbers bodies)
       ∙ sym (map-append (λ (one : Placed). one.1.0) (part_at number) (flat_map part_at bodies))
 
+  as_many_loops : length (loops_of tree) ≡ length (flat_map part_at tree.bodies.items)
+  as_many_loops =
+      sym (length-map (loops_of tree) (λ one. one.0)) ∙ ap length (all_numbers tree.bodies.items)
+      ∙ length-map (flat_map part_at tree.bodies.items) (λ one. one.1.0)
+
+  -- the rows are as many as the loops
+  pub as_many_rows : length (loop_rows tree) ≡ length (loops_of tree)
+  as_many_rows =
+      let all = flat_map part_at tree.bodies.items in
+      ap length (all_rows tree.bodies.items) ∙ length-map all (λ (one : Placed). (one.0, one.1.1)) ∙ sym as_many_loops
+
   -- each loop of each block has its row
   pub loops_have_rows : (rows : List Loop) → IsPermutation (range_with_len 0 (length tree.blocks.items)) tree.bodies.items
       → map loop_row rows ≡ loop_rows tree → map (λ one. one.0) (loops_of tree) ≡ range_with_len 0 (length (loops_of tree))
       → AreLoopsOf rows 0 tree.blocks.items
   loops_have_rows rows bodies same numbers =
       let all = flat_map part_at tree.bodies.items in
-      let as_many : length (loops_of tree) ≡ length all =
-      sym (length-map (loops_of tree) (λ one. one.0)) ∙ ap length (all_numbers tree.bodies.items) ∙ length-map all (λ one. one.1.0) in
       let have = have_rows [] rows all (same ∙ all_rows tree.bodies.items)
-      (sym (all_numbers tree.bodies.items) ∙ numbers ∙ ap (range_with_len 0) as_many) in
+      (sym (all_numbers tree.bodies.items) ∙ numbers ∙ ap (range_with_len 0) as_many_loops) in
       are_loops_of rows 0 tree.blocks.items
       (λ number block is.
       let at = among_bodies tree bodies number (slice_get_within tree.blocks.items number block is) in

@@ -77,9 +77,9 @@ use Rattle.typed_tree.specs.Records.{are_there}
 pub use Rattle.typed_tree.specs.Tests.{all_hold, of_one, whole_indexes}
 use Rattle.typed_tree.specs.Threats.{controls_but, spares}
 
--- a program has no more variables
-abbrev pub most_variables : ℕ
-most_variables = 1000000
+-- a program has no more variables, no more blocks and no more loops
+abbrev pub most_numbered : ℕ
+most_numbered = 1000000
 
 -- the most statements and expressions of a program
 abbrev pub most_entries : ℕ
@@ -625,9 +625,9 @@ are_well_formed_blocks outline number (block ∷ blocks) =
 -- a tree is well formed
 pub record IsWellFormed (tree : Tree) : Type 0 where
   -- by their roots
-  pub few_variables : length tree.variables.items ≤ most_variables
-  -- a program has no more blocks than it may have statements and expressions
-  pub few_blocks : length tree.blocks.items ≤ most_entries
+  pub few_variables : length tree.variables.items ≤ most_numbered
+  pub few_blocks : length tree.blocks.items ≤ most_numbered
+  pub few_loops : length tree.loops.items ≤ most_numbered
   -- the table of types begins with the required ones (6.4.2.2)
   pub required : BeginWithRequired tree.types
   -- each is one that a block declares

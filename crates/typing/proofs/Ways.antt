@@ -22,7 +22,7 @@ use Rattle.typed_tree.specs.declared.site.SiteKind.{SiteKind}
 use Rattle.typed_tree.specs.declared.tree.Variable.{Variable}
 use Rattle.typed_tree.specs.declared.tree.VariableKind.{VariableKind}
 use Rattle.typed_tree.specs.Accesses.{root_of}
-use Rattle.typed_tree.specs.WellFormed.{most_entries}
+use Rattle.typed_tree.specs.WellFormed.{most_entries, most_numbered}
 use Rattle.typed_tree.specs.Look.{Mark, Look, BlockEnds, Controls, ForEnds, Target, WholeTarget, mark_blocks, mark_entries, mark_loops}
 use Rattle.typing.specs.Names.{folded}
 use Rattle.typing.specs.Passing.{Headed, Enclosing, OpenRecord}
@@ -74,7 +74,8 @@ pub data Step : Bool → Owner → ℕ → ℕ → Look → Passed → Passed �
       → Step true owner depth depth (one ∷ []) s (record s { entries = s.entries + 1 })
   -- a loop, by its numbers
   Loop :
-      {owner : Owner} {depth : ℕ} {s : Passed} (one : Mark) → s.entries < most_entries → numbers_of one ≡ (s.entries ∷ [], s.loops ∷ [], [])
+      {owner : Owner} {depth : ℕ} {s : Passed} (one : Mark) → s.entries < most_entries → s.loops < most_numbered
+      → numbers_of one ≡ (s.entries ∷ [], s.loops ∷ [], [])
       → Step true owner depth depth (one ∷ []) s (record s { entries = s.entries + 1; loops = s.loops + 1 })
   -- any other form, or where one ends
   Marked : {owner : Owner} {depth : ℕ} {s : Passed} (one : Mark) → numbers_of one ≡ ([], [], []) → Step true owner depth depth (one ∷ []) s s
@@ -392,14 +393,23 @@ module _ {owner : Owner} {depth : ℕ} where
   unfolding Steps.begin_loop Steps.enter
   enter_loop_walks marked entry = record { walks = λ old. by old (nat_le most_entries old.entries) refl }
     where
+      numbered : (old : Passed) → old.entries < most_entries → (test : Bool) → nat_le most_numbered old.loops ≡ test
+          → Goes (Way true owner depth depth) old
+          (and_then (behind_marks {A = ℕ × ℕ} [] (and_then
+          (if test then Err (TooMany old.latest) else Ok (after old.loops [] (record old { entries = old.entries + 1; loops = old.loops + 1 })))
+          (λ l. behind_marks {A = ℕ × ℕ} l.look (pure {A = ℕ × ℕ} (old.entries, l.answer) l.passed))))
+          (λ b. behind_marks b.look (mark (marked b.answer.0 b.answer.1) b.passed)))
+      numbered old few true test = tt
+      numbered old few false test =
+          One (Loop (marked old.entries old.loops) few (below most_numbered old.loops test) (entry old.entries old.loops))
+
       by : (old : Passed) (test : Bool) → nat_le most_entries old.entries ≡ test
           → Goes (Way true owner depth depth) old
           (and_then (and_then (if test then Err (TooMany old.latest) else Ok (after old.entries [] (record old { entries = old.entries + 1 })))
           (λ b. behind_marks {A = ℕ × ℕ} b.look ((Steps.number_loop >>= (λ l. pure {A = ℕ × ℕ} (b.answer, l))) b.passed)))
           (λ b. behind_marks b.look (mark (marked b.answer.0 b.answer.1) b.passed)))
       by old true test = tt
-      by old false test =
-          One (Loop (marked old.entries old.loops) (below most_entries old.entries test) (entry old.entries old.loops))
+      by old false test = numbered old (below most_entries old.entries test) (nat_le most_numbered old.loops) refl
 
   pub site_walks : (kind : SiteKind) (place : Place) → Walks (Way true owner depth depth) (Steps.site kind place)
   unfolding Steps.site

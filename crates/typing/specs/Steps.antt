@@ -26,7 +26,7 @@ use Rattle.typed_tree.specs.declared.site.SiteKind.{SiteKind}
 use Rattle.typed_tree.specs.Look.{Mark}
 use Rattle.typed_tree.specs.declared.tree.VariableKind.{VariableKind}
 use Rattle.typed_tree.specs.declared.tree.Variable.{Variable}
-use Rattle.typed_tree.specs.WellFormed.{is_local_kind, most_blocks, most_entries, most_variables}
+use Rattle.typed_tree.specs.WellFormed.{is_local_kind, most_blocks, most_entries, most_numbered}
 use Rattle.typing.specs.Names.{folded, required_region}
 use Rattle.typing.specs.Passing.{Headed, Enclosing, OpenRecord, Passed, Passing, after, pure, mark}
 use Rattle.typing_rules.specs.Checked.{Checked, and_then}
@@ -85,9 +85,11 @@ enter = λ s.
 abbrev pub enter_as : (ℕ → Mark) → Passing (Unit {0})
 enter_as marked = enter >>= (λ number. mark (marked number))
 
--- the number of a loop that begins
+-- the number of a loop that begins; one too many is told at the latest token
 abbrev pub number_loop : Passing ℕ
-number_loop = λ s. Ok (after s.loops [] (record s { loops = s.loops + 1 }))
+number_loop = λ s.
+    if nat_le most_numbered s.loops then Err (fault.TooMany s.latest)
+    else Ok (after s.loops [] (record s { loops = s.loops + 1 }))
 
 -- a loop is entered, by its number among the entries and its number among the loops
 unfoldable pub begin_loop : Passing (ℕ × ℕ)
@@ -275,7 +277,7 @@ wants_file one place = λ s. if has_file one s then Ok (after tt [] s) else Err 
 -- the root number of the next variable; one too many is told at its name
 unfoldable pub next_root : Place → Passing ℕ
 next_root place = λ s.
-    if nat_le most_variables (length s.variables) then Err (fault.TooMany place)
+    if nat_le most_numbered (length s.variables) then Err (fault.TooMany place)
     else Ok (after (length s.variables) [] s)
 
 -- a variable more of a block, where the block has room for its cells; else it is told at the variable's name
@@ -305,7 +307,7 @@ may_nest place = λ s.
 -- the number of the next block; a program has no more blocks than statements, and one too many is told at its name
 unfoldable pub next_block : Place → Passing ℕ
 next_block place = λ s.
-    if nat_le most_entries (length s.headings) then Err (fault.TooMany place) else Ok (after (length s.headings) [] s)
+    if nat_le most_numbered (length s.headings) then Err (fault.TooMany place) else Ok (after (length s.headings) [] s)
 
 -- a heading was passed
 unfoldable pub add_heading : Headed → Passing (Unit {0})

@@ -3,7 +3,7 @@ ghost use Rattle.memory.specs.Refused.{the_refusal};
 ghost use Rattle.typed_tree.specs.declared.fault.TypeFault.TheVariants.{Memory};
 ghost use Rattle.types.specs.Types.{most_cells};
 
-use crate::typer::{MOST_BLOCKS, MOST_ENTRIES, Typer};
+use crate::typer::{MOST_BLOCKS, MOST_NUMBERED, Typer};
 use indexmap::IndexMap;
 use place::Place;
 use scopes::{Region, copied};
@@ -142,7 +142,7 @@ impl Typer {
     pub fn next_block(&self, place: Place) -> Result<u32, TypeFault>
         ensures { Tells (step.next_block place self.now) result self.now }
     {
-        if self.headings.len() >= MOST_ENTRIES as usize {
+        if self.headings.len() >= MOST_NUMBERED {
             return Err(TypeFault::TooMany(place));
         }
         Ok(self.headings.len() as u32)

@@ -7,7 +7,7 @@ ghost use Rattle.typed_tree.specs.declared.fault.TypeFault.TheVariants.{Memory};
 ghost use Rattle.typing.specs.Passing.{after};
 
 use crate::names::{REQUIRED, fold_into, folded};
-use crate::typer::{MOST_ENTRIES, MOST_SITES, Typer};
+use crate::typer::{MOST_ENTRIES, MOST_NUMBERED, MOST_SITES, Typer};
 use place::Place;
 use scopes::{Denotation, File, Region};
 use syntax_tree::Name;
@@ -46,9 +46,12 @@ impl Typer {
     pub fn enter_loop(&mut self) -> Result<(u32, u32), TypeFault>
         ensures { Tells (spec.begin_loop self.old) result self.new }
     {
-        let loop_number = self.loops;
         let number = self.enter()?;
-        self.loops = loop_number + 1;
+        if self.loops as usize >= MOST_NUMBERED {
+            return Err(TypeFault::TooMany(self.latest));
+        }
+        let loop_number = self.loops;
+        self.loops += 1;
         Ok((number, loop_number))
     }
 

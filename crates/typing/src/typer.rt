@@ -5,7 +5,7 @@ ghost use Rattle.typed_tree.specs.declared.fault.TypeFault.TheVariants.{Memory};
 ghost use Rattle.typing.specs.Passing.{Passed};
 ghost use Rattle.typing.specs.Sound.{stands};
 ghost use Rattle.typing.specs.View.{headed_of, enclosing_of, record_of};
-ghost use Rattle.typing.specs.declared.typer.TheConstants.{MOST_SITES, MOST_ENTRIES};
+ghost use Rattle.typing.specs.declared.typer.TheConstants.{MOST_SITES, MOST_ENTRIES, MOST_NUMBERED};
 
 use crate::blocks::{EnclosingBlock, PassedHeading};
 use crate::records::OpenRecord;
@@ -25,8 +25,8 @@ pub const MOST_SITES: usize = 1_000_000;
 /// How deep blocks may be nested, of which that of the program is the first.
 pub const MOST_BLOCKS: usize = 16;
 
-/// The most variables of a program.
-pub const MOST_VARIABLES: usize = 1_000_000;
+/// The most variables, the most blocks and the most loops of a program.
+pub const MOST_NUMBERED: usize = 1_000_000;
 
 /// The most statements and expressions of a program.
 pub const MOST_ENTRIES: u32 = 4_000_000;
@@ -53,7 +53,7 @@ pub struct Typer {
     pub(crate) points: Vec<Point>,
     // How many statements and expressions were entered.
     pub(crate) entries: u32,
-    // How many loops began: each is a statement.
+    // How many loops began.
     pub(crate) loops: u32,
     // Those of the for statements round the place, by root number, the outermost first.
     pub(crate) controls: Vec<u32>,
@@ -72,7 +72,7 @@ pub struct Typer {
     ghost points_in_order: { ArePointsInOrder points.items },
     ghost few_points: { vec_len points ≤ MOST_SITES },
     ghost few_entries: { entries ≤ MOST_ENTRIES },
-    ghost few_loops: { loops ≤ entries },
+    ghost few_loops: { loops ≤ MOST_NUMBERED },
     ghost few_records: { vec_len records ≤ MOST_ENTRIES },
 }
 

@@ -3,7 +3,7 @@ ghost use Rattle.memory.specs.Refused.{the_refusal};
 ghost use Rattle.typed_tree.specs.declared.fault.TypeFault.TheVariants.{Memory};
 ghost use Rattle.typing.specs.Names.{folded};
 
-use crate::typer::{MOST_VARIABLES, Typer};
+use crate::typer::{MOST_NUMBERED, Typer};
 use place::Place;
 use scopes::Denotation;
 use syntax_tree::Name;
@@ -77,7 +77,7 @@ impl Typer {
     fn next_root(&self, place: Place) -> Result<u32, TypeFault>
         ensures { Tells (step.next_root place self.now) result self.now }
     {
-        if self.variables.len() >= MOST_VARIABLES {
+        if self.variables.len() >= MOST_NUMBERED {
             return Err(TypeFault::TooMany(place));
         }
         Ok(self.variables.len() as u32)

@@ -140,7 +140,7 @@ plain_result one assigned none = subst (λ (l : List ℕ). AreIn assigned (l ++ 
 step_results : {acts : Bool} {owner : Owner} {from to : ℕ} {look : Look} {old new : Passed} → Step acts owner from to look old new
     → AreIn new.assigned (flat_map mark_results look)
 step_results {new = new} (Entry one few is) = plain_result one new.assigned (ap (λ n. n.2) is)
-step_results {new = new} (Loop one few is) = plain_result one new.assigned (ap (λ n. n.2) is)
+step_results {new = new} (Loop one few room is) = plain_result one new.assigned (ap (λ n. n.2) is)
 step_results {new = new} (Marked one none) = plain_result one new.assigned (ap (λ n. n.2) none)
 step_results {new = new} (Ended one no_entry no_loop all) = subst (AreIn new.assigned) (sym (append-nil (mark_results one))) all
 step_results other = refl

@@ -37,7 +37,7 @@ use Rattle.typed_tree.specs.declared.fault.TypeFault.TheVariants as fault
 use Rattle.typed_tree.specs.declared.tree.Variable.{Variable}
 use Rattle.typed_tree.specs.declared.tree.VariableKind.{VariableKind}
 use Rattle.typed_tree.specs.declared.tree.VariableKind.TheVariants as variable
-use Rattle.typed_tree.specs.WellFormed.{is_character, are_characters, is_local_kind, is_parameter_kind, is_result_kind, most_variables, roots_where}
+use Rattle.typed_tree.specs.WellFormed.{is_character, are_characters, is_local_kind, is_parameter_kind, is_result_kind, most_numbered, roots_where}
 use Rattle.typing.specs.Names.{folded}
 use Rattle.typing.specs.Passing.{Passed, After, Passing, after, behind_marks, by_types, pure, given, ◌>>=◌, ◌>>?◌}
 use Rattle.typing_rules.specs.Checked.{Checked}
@@ -369,7 +369,7 @@ module _ (here : Here) (under : List Region) (counted : ℕ) (heads : List Head)
 
   -- there may be one variable more, of a type of the table
   abbrev pub MayCome : VariableKind → TypeId → Passed → Type 0
-  MayCome of type_id s = (type_id.index < length s.types) × (length s.variables < most_variables) × MayDeclare of s
+  MayCome of type_id s = (type_id.index < length s.types) × (length s.variables < most_numbered) × MayDeclare of s
 
   -- the number of the next variable
   abbrev pub IsRoot : VariableKind → TypeId → ℕ → Passed → Type 0
@@ -390,9 +390,9 @@ module _ (here : Here) (under : List Region) (counted : ℕ) (heads : List Head)
   next_root_keeps place of type_id roots results = record {
     keeps = λ s a is from.
         let r = from.0 in
-        let x = split_unless (nat_le most_variables (length s.variables)) (fault.TooMany place) (after (length s.variables) [] s) a is in
+        let x = split_unless (nat_le most_numbered (length s.variables)) (fault.TooMany place) (after (length s.variables) [] s) a is in
         subst (Kept counted s (λ root n. IsRoot of type_id root n × HasRoots roots results n)) x.1
-        (Stay, ((r.0.0, (r.0.1, below most_variables (length s.variables) x.0, r.1), refl), from.1));
+        (Stay, ((r.0.0, (r.0.1, below most_numbered (length s.variables) x.0, r.1), refl), from.1));
   }
 
   pub root_is_next : (of : VariableKind) (type_id : TypeId) (root : ℕ) (s : Passed) → IsRoot of type_id root s → IsNext of type_id root s

@@ -23,7 +23,7 @@ use Rattle.typed_tree.specs.declared.tree.Variable.{Variable}
 use Rattle.typed_tree.specs.declared.tree.VariableKind.{VariableKind}
 use Rattle.typed_tree.specs.declared.tree.VariableKind.TheVariants as variable
 use Rattle.typed_tree.specs.Look.{Look}
-use Rattle.typed_tree.specs.WellFormed.{declarer, is_local_kind, is_parameter_kind, is_result_kind, most_blocks, most_variables, is_one_of, roots_where}
+use Rattle.typed_tree.specs.WellFormed.{declarer, is_local_kind, is_parameter_kind, is_result_kind, most_blocks, most_numbered, is_one_of, roots_where}
 use Rattle.typed_tree.specs.WellFormed.{variables_of}
 use Rattle.typing.specs.Names.{folded, all_folded, formal_names}
 use Rattle.typing.specs.Passing.{Enclosing, Headed, Passed, After, Passing, after, behind_marks, pure, ◌>>=◌, ◌>>◌, ◌>>?◌}
@@ -257,7 +257,7 @@ result_regions number place None s a is = let same : after None [] s ≡ a = cc 
 result_regions number place (Some id) s a is =
     let goes_on : ℕ → Passing (Option ℕ) = λ root. reserve place number variable.Result id >> pure (Some root) in
     let x = parts_of (next_root place) goes_on s a is in
-    let many = nat_le most_variables (length s.variables) in
+    let many = nat_le most_numbered (length s.variables) in
     let first = split_unless many (fault.TooMany place) (after (length s.variables) [] s) x.first x.goes in
     let y = parts_of (reserve place number variable.Result id) (λ _. pure (Some x.first.answer)) x.first.passed x.second x.goes_on in
     let reserved = reserve_regions number place id x.first.passed y.first y.goes in

@@ -2,7 +2,7 @@
 use Rattle.std.proofs.Common.{◌≡◌, ℕ, Bool, zero, suc, ◌+◌, ◌≤◌, List, [], ◌∷◌, ◌++◌, length, length-append, refl, sym, ap, subst, ◌∙◌, arith}
 use Rattle.std.specs.List.{range_with_len, flat_map}
 use Rattle.std.proofs.lemmas.Grind.{flat_map-append}
-use Rattle.typed_tree.specs.WellFormed.{most_entries}
+use Rattle.typed_tree.specs.WellFormed.{most_entries, most_numbered}
 use Rattle.typed_tree.specs.Look.{Mark, Look, ForEnds, mark_entries, mark_loops}
 use Rattle.typing.specs.Passing.{Passed}
 use Rattle.typing.specs.Steps.{most_sites}
@@ -60,7 +60,7 @@ bracket_goes {numbers} last one two g = both_go (plain_mark {numbers = numbers} 
 entries_step : {acts : Bool} {owner : Owner} {from to : ℕ} {look : Look} {old new : Passed} → Step acts owner from to look old new
     → GoesOn mark_entries look old.entries new.entries
 entries_step (Entry one few is) = one_mark (ap (λ n. n.0) is)
-entries_step (Loop one few is) = one_mark (ap (λ n. n.0) is)
+entries_step (Loop one few room is) = one_mark (ap (λ n. n.0) is)
 entries_step (Marked one none) = plain_mark (ap (λ n. n.0) none)
 entries_step (Ended one no_entry no_loop all) = plain_mark no_entry
 entries_step other = no_mark
@@ -76,7 +76,7 @@ entries_go (Controlled root way) = bracket_goes ForEnds refl refl (entries_go wa
 loops_step : {acts : Bool} {owner : Owner} {from to : ℕ} {look : Look} {old new : Passed} → Step acts owner from to look old new
     → GoesOn mark_loops look old.loops new.loops
 loops_step (Entry one few is) = plain_mark (ap (λ n. n.1) is)
-loops_step (Loop one few is) = one_mark (ap (λ n. n.1) is)
+loops_step (Loop one few room is) = one_mark (ap (λ n. n.1) is)
 loops_step (Marked one none) = plain_mark (ap (λ n. n.1) none)
 loops_step (Ended one no_entry no_loop all) = plain_mark no_loop
 loops_step other = no_mark
@@ -92,7 +92,7 @@ loops_go (Controlled root way) = bracket_goes ForEnds refl refl (loops_go way)
 few_step : {acts : Bool} {owner : Owner} {from to : ℕ} {look : Look} {old new : Passed} → Step acts owner from to look old new → old.entries ≤ most_entries
     → new.entries ≤ most_entries
 few_step (Entry one few is) h = omega (arith, few)
-few_step (Loop one few is) h = omega (arith, few)
+few_step (Loop one few room is) h = omega (arith, few)
 few_step other h = h
 
 -- there are never too many entries
@@ -103,6 +103,20 @@ few_entries (One step) h = few_step step h
 few_entries (Then first second) h = few_entries second (few_entries first h)
 few_entries (Assigned root way told) h = few_entries way h
 few_entries (Controlled root way) h = few_entries way h
+
+loop_few : {acts : Bool} {owner : Owner} {from to : ℕ} {look : Look} {old new : Passed} → Step acts owner from to look old new → old.loops ≤ most_numbered
+    → new.loops ≤ most_numbered
+loop_few (Loop one few room is) h = omega (arith, room)
+loop_few other h = h
+
+-- nor too many loops
+pub few_loops : {acts : Bool} {owner : Owner} {from to : ℕ} {look : Look} {old new : Passed} → Way acts owner from to look old new
+    → old.loops ≤ most_numbered → new.loops ≤ most_numbered
+few_loops Stay h = h
+few_loops (One step) h = loop_few step h
+few_loops (Then first second) h = few_loops second (few_loops first h)
+few_loops (Assigned root way told) h = few_loops way h
+few_loops (Controlled root way) h = few_loops way h
 
 sites_step : {acts : Bool} {owner : Owner} {from to : ℕ} {look : Look} {old new : Passed} → Step acts owner from to look old new
     → length old.sites ≤ most_sites → length new.sites ≤ most_sites

@@ -19,7 +19,7 @@ use Rattle.typed_tree.specs.declared.tree.Heading.{Heading as TreeHeading}
 use Rattle.typed_tree.specs.declared.tree.Variable.{Variable}
 use Rattle.typed_tree.specs.Ids.{AreByPlace}
 use Rattle.typed_tree.specs.Look.{Look, Mark, BlockEnds, mark_blocks, blocks_of_look, are_formed}
-use Rattle.typed_tree.specs.WellFormed.{Outline, are_few_cells, is_heading, most_entries}
+use Rattle.typed_tree.specs.WellFormed.{Outline, are_few_cells, is_heading, most_numbered}
 use Rattle.typing.specs.Names.{all_folded, required_region}
 use Rattle.typing.specs.Passing.{Headed, Passed, After, Passing, after, behind_marks, each, ◌>>◌}
 use Rattle.typing_rules.specs.Checked.{Checked}
@@ -40,7 +40,7 @@ use Rattle.typing_laws.proofs.Went.{grows, inner}
 use Rattle.typing_laws.proofs.Grown.{Grown, sited_then, both_true, fine_later, further, grown_then}
 use Rattle.typing_laws.proofs.Headings.{heads_count, parts_of}
 use Rattle.typing_laws.proofs.Keeping.{before, behind, each_keeps}
-use Rattle.typing_laws.proofs.Numbers.{entries_go, few_entries, few_points, few_sites, loops_go}
+use Rattle.typing_laws.proofs.Numbers.{entries_go, few_entries, few_loops, few_points, few_sites, loops_go}
 use Rattle.typing_laws.proofs.Ordered.{covers_by_place}
 use Rattle.typing_laws.proofs.Outlines.{Agrees, agrees_in, headed_at, heading_formed, same_parts}
 use Rattle.typing_laws.proofs.Owned.{cells_of_block}
@@ -368,17 +368,18 @@ module _ (program : Program) (a : After (Unit {0})) (w : Whole program a) where
         le_is m n h = grind (arith, nat_tests)
 
   is_lawful : Way true Anyone 0 2 a.look (begins program.name.place) a.passed → Lawful program a
-  is_lawful way = let entries = entries_go way in record {
+  is_lawful way = let entries = entries_go way in let loops = loops_go way in record {
     numbered = entries.ascends;
     few_entries = omega (arith, entries.next_is, few_entries way (omega arith));
-    loops = (loops_go way).ascends;
+    loops = loops.ascends;
+    few_loops = omega (arith, loops.next_is, few_loops way (omega arith));
     blocks = blocks_permuted;
     a_block = at_least_one;
     formed = is_formed;
     headings = heading_is;
     few_cells = cells_are_few;
     few_variables = base.few_variables;
-    few_blocks = subst (λ n. n ≤ most_entries) (heads_count a.passed.headings) base.few_blocks;
+    few_blocks = subst (λ n. n ≤ most_numbered) (heads_count a.passed.headings) base.few_blocks;
     declared =
         subst (λ n. list_all (λ (v : Variable). nat_lt v.block n) a.passed.variables ≡ true) (heads_count a.passed.headings) base.by_blocks;
     unthreatened = has_controls;

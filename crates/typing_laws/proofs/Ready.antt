@@ -11,7 +11,7 @@ use Rattle.types.specs.Forms.{Form}
 use Rattle.types.specs.Types.{cells_of, is_ordinal, most_cells}
 use Rattle.typed_tree.specs.declared.tree.Variable.{Variable}
 use Rattle.typed_tree.specs.declared.tree.VariableKind.{VariableKind}
-use Rattle.typed_tree.specs.WellFormed.{declarer, is_local_kind, is_parameter_kind, is_result_kind, is_one_of, most_blocks, most_entries, most_variables}
+use Rattle.typed_tree.specs.WellFormed.{declarer, is_local_kind, is_parameter_kind, is_result_kind, is_one_of, most_blocks, most_numbered}
 use Rattle.typing.specs.Passing.{Headed, Passed}
 use Rattle.typing_laws.proofs.Grown.{AreFit, FitsHeading, IsFormal, both_true}
 use Rattle.typing_laws.proofs.Owned.{Fails, HasRoot, declares, parameters_of, results_of, roots_of, root_there, roots_none_more, not_both, local_no_parameter}
@@ -62,8 +62,8 @@ pub record Base (types : List Form) (variables : List Variable) (headings : List
   pub headed : (block : ℕ) (h : Headed) → slice_get headings block ≡ Some h → IsHeaded types variables headings block h
   pub by_blocks : list_all (λ variable. nat_lt variable.block blocks) variables ≡ true
   pub have_types : HaveTypes types variables
-  pub few_variables : length variables ≤ most_variables
-  pub few_blocks : blocks ≤ most_entries
+  pub few_variables : length variables ≤ most_numbered
+  pub few_blocks : blocks ≤ most_numbered
   pub few_cells : (block : ℕ) → cells_of_block types block variables ≤ most_cells
 
 pub type_stands : (types : List Form) (variables : List Variable) (root : ℕ) (v : Variable) → HaveTypes types variables → slice_get variables root ≡ Some v
@@ -118,7 +118,7 @@ lt_is a b h = grind (arith, nat_tests)
 
 -- one variable more
 pub base_variable : (types : List Form) (variables : List Variable) (headings : List Headed) (blocks : ℕ) (variable : Variable)
-    → Base types variables headings blocks → variable.block < blocks → variable.type_id.index < length types → length variables < most_variables
+    → Base types variables headings blocks → variable.block < blocks → variable.type_id.index < length types → length variables < most_numbered
     → cells_of_block types variable.block variables + cells_of types variable.type_id ≤ most_cells → IsUntold headings variable
     → Base types (variables ++ variable ∷ []) headings blocks
 base_variable types variables headings blocks variable b there stands few room untold = record {
@@ -166,7 +166,7 @@ more_blocks (v ∷ variables) few many h all =
     by is = grind (arith, nat_tests)
 
 -- variables may belong to more blocks
-pub base_blocks : (types : List Form) (variables : List Variable) (headings : List Headed) (few many : ℕ) → few ≤ many → many ≤ most_entries
+pub base_blocks : (types : List Form) (variables : List Variable) (headings : List Headed) (few many : ℕ) → few ≤ many → many ≤ most_numbered
     → Base types variables headings few → Base types variables headings many
 base_blocks types variables headings few many h room b = record {
   lawful = b.lawful;

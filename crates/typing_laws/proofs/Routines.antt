@@ -16,7 +16,7 @@ use Rattle.scopes.specs.declared.denotation.Denotation.{Denotation}
 use Rattle.scopes.specs.declared.denotation.Denotation.TheVariants as denotes
 use Rattle.typed_tree.specs.declared.fault.TypeFault.TheVariants as fault
 use Rattle.typed_tree.specs.declared.tree.Variable.{Variable}
-use Rattle.typed_tree.specs.WellFormed.{is_one_of, most_blocks, most_entries, of_one, variables_of}
+use Rattle.typed_tree.specs.WellFormed.{is_one_of, most_blocks, most_numbered, of_one, variables_of}
 use Rattle.typing.specs.Names.{folded}
 use Rattle.typing.specs.Passing.{Enclosing, Passed, After, Passing, after, pure, ◌>>=◌, ◌>>◌}
 use Rattle.typing_rules.specs.Checked.{Checked}
@@ -41,7 +41,7 @@ use Rattle.typing_laws.proofs.Waiting.{waits_in}
 -- ---- a new heading
 
 -- with one head more, of a block that comes
-ready_heads : (here : Here) (under : List Region) (heads : List Head) (head : Head) (s : Passed) → length heads < most_entries
+ready_heads : (here : Here) (under : List Region) (heads : List Head) (head : Head) (s : Passed) → length heads < most_numbered
     → Ready here under here.block heads s.variables s → Ready here under here.block (heads ++ head ∷ []) s.variables s
 ready_heads here under heads head s room r = record {
   sound = regions_later inside_itself as_long as_long (one_longer heads head) s.regions r.sound;
@@ -74,11 +74,11 @@ module _ (here : Here) (under : List Region) where
   nested_few place s a is = split_if (nat_lt (length s.enclosing.around + 1) most_blocks) (fault.NestedTooDeep place) (after tt [] s) a is
 
   next_is : (place : Place) (s : Passed) (a : After ℕ) → next_block place s ≡ Ok a
-      → (length s.headings < most_entries) × (after (length s.headings) [] s ≡ a)
+      → (length s.headings < most_numbered) × (after (length s.headings) [] s ≡ a)
   unfolding next_block
   next_is place s a is =
-      let next = split_unless (nat_le most_entries (length s.headings)) (fault.TooMany place) (after (length s.headings) [] s) a is in
-      (below most_entries (length s.headings) next.0, next.1)
+      let next = split_unless (nat_le most_numbered (length s.headings)) (fault.TooMany place) (after (length s.headings) [] s) a is in
+      (below most_numbered (length s.headings) next.0, next.1)
 
   less_is : (a b : ℕ) → nat_lt a b ≡ true → a < b
   less_is a b h = grind (arith, nat_tests)
@@ -86,7 +86,7 @@ module _ (here : Here) (under : List Region) where
   -- from where the routine's name is declared
   record Named (name : Name) (groups : List FormalGroup) (of_result : Option Name) (s : Passed) (a : After ℕ) : Type 0 where
     pub few : nat_lt (length s.enclosing.around + 1) most_blocks ≡ true
-    pub room : length s.headings < most_entries
+    pub room : length s.headings < most_numbered
     pub is :
         (declare name (denotes.Routine (length s.headings) (not (is_none of_result)))
         >> (heading (length s.headings) name groups of_result >> pure (length s.headings))) s
@@ -115,7 +115,7 @@ module _ (here : Here) (under : List Region) where
       let head : Head = record { around = here.around ++ here.block ∷ []; is_function = function } in
       let heads = heads_passed s.headings ++ head ∷ [] in
       let n = named name groups of_result s a is in
-      let room : length (heads_passed s.headings) < most_entries = omega (arith, n.room, heads_count s.headings) in
+      let room : length (heads_passed s.headings) < most_numbered = omega (arith, n.room, heads_count s.headings) in
       let ready = ready_heads here under (heads_passed s.headings) head s room st.ready in
       let at_number : slice_get heads number ≡ Some head =
       ap (slice_get heads) (sym (heads_count s.headings)) ∙ get_last (heads_passed s.headings) head in

@@ -19,7 +19,7 @@ use Rattle.typed_tree.specs.declared.tree.Variable.{Variable}
 use Rattle.typed_tree.specs.declared.fault.TypeFault.{TypeFault}
 use Rattle.typed_tree.specs.declared.fault.TypeFault.TheVariants as fault
 use Rattle.typed_tree.specs.declared.site.SiteKind.{SiteKind}
-use Rattle.typed_tree.specs.WellFormed.{Outline, are_characters, is_local_kind, most_entries}
+use Rattle.typed_tree.specs.WellFormed.{Outline, are_characters, is_local_kind, most_entries, most_numbered}
 use Rattle.typed_tree.specs.Threats.{is_none_of}
 use Rattle.typed_tree.specs.Look.{For, Controls, ForEnds, Mark, Look, is_formed_mark}
 use Rattle.typing.specs.Passing.{Enclosing, Passed, After, Passing, after, pure, fail, given, by_types, mark, behind_marks, ◌>>=◌, ◌>>?◌}
@@ -374,19 +374,20 @@ enter_loop_at : {here : Here} (marked : ℕ → ℕ → Mark) → ((k l : ℕ) �
 unfolding begin_loop enter
 enter_loop_at {here} marked loop plain opens s a changes controls formed fine is = by (nat_le most_entries s.entries) refl is
   where
-    by : (test : Bool) → nat_le most_entries s.entries ≡ test
-        → and_then (and_then (if test then Err (fault.TooMany s.latest) else Ok (after s.entries [] (record s { entries = s.entries + 1 })))
-        (λ b. behind_marks {A = ℕ × ℕ} b.look ((number_loop >>= (λ l. pure {A = ℕ × ℕ} (b.answer, l))) b.passed)))
+    numbered : s.entries < most_entries → (test : Bool) → nat_le most_numbered s.loops ≡ test
+        → and_then (behind_marks {A = ℕ × ℕ} [] (and_then
+        (if test then Err (fault.TooMany s.latest) else Ok (after s.loops [] (record s { entries = s.entries + 1; loops = s.loops + 1 })))
+        (λ l. behind_marks {A = ℕ × ℕ} l.look (pure {A = ℕ × ℕ} (s.entries, l.answer) l.passed))))
         (λ b. behind_marks b.look (mark (marked b.answer.0 b.answer.1) b.passed)) ≡ Ok a
         → Leaves here Nothing s Anything a
-    by true test is = absurd cc
-    by false test is =
+    numbered few true test is = absurd cc
+    numbered few false test is =
         let new : Passed = record s { entries = s.entries + 1; loops = s.loops + 1 } in
         let made = marked s.entries s.loops in
         let same : after tt (made ∷ []) new ≡ a = cc in
         subst (Leaves here Nothing s Anything) same (
           record {
-            way = One (Loop made (below most_entries s.entries test) (loop s.entries s.loops));
+            way = One (Loop made few (below most_numbered s.loops test) (loop s.entries s.loops));
             lawful = fine.lawful;
             texts = fine.texts;
             changes = changes s.entries s.loops;
@@ -399,6 +400,14 @@ enter_loop_at {here} marked loop plain opens s a changes controls formed fine is
           no_sites refl refl,
           tt,
         )
+
+    by : (test : Bool) → nat_le most_entries s.entries ≡ test
+        → and_then (and_then (if test then Err (fault.TooMany s.latest) else Ok (after s.entries [] (record s { entries = s.entries + 1 })))
+        (λ b. behind_marks {A = ℕ × ℕ} b.look ((number_loop >>= (λ l. pure {A = ℕ × ℕ} (b.answer, l))) b.passed)))
+        (λ b. behind_marks b.look (mark (marked b.answer.0 b.answer.1) b.passed)) ≡ Ok a
+        → Leaves here Nothing s Anything a
+    by true test is = absurd cc
+    by false test is = numbered (below most_entries s.entries test) (nat_le most_numbered s.loops) refl is
 
 pub enter_loop_does : {here : Here} {least : Reached} (marked : ℕ → ℕ → Mark) → ((k l : ℕ) → numbers_of (marked k l) ≡ (k ∷ [], l ∷ [], []))
     → ((k l : ℕ) → mark_changes (marked k l) ≡ [])

@@ -18,14 +18,14 @@ use Rattle.typed_tree.specs.Ids.{AreByPlace}
 use Rattle.typed_tree.specs.Look.{Look, Mark, BlockEnds, are_formed, blocks_of_look, entries_of_look, loops_of_look, heading_look, look_block, look_stmt}
 use Rattle.typed_tree.specs.Look.{mark_blocks, tree_look}
 use Rattle.typed_tree.specs.Kinds.{are_held}
-use Rattle.typed_tree.specs.Loops.{loops_of}
+use Rattle.typed_tree.specs.Loops.{loop_row, loops_of}
 use Rattle.types.specs.Types.{BeginWithRequired}
-use Rattle.typed_tree.specs.WellFormed.{IsWellFormed, heading_of, is_well_formed_block, most_entries, most_variables, outline_of}
+use Rattle.typed_tree.specs.WellFormed.{IsWellFormed, heading_of, is_well_formed_block, most_numbered, outline_of}
 use Rattle.typed_tree.proofs.Blocks.{are_well_formed, bodies_are_formed}
 use Rattle.typed_tree.proofs.LoopNumbers.{loop_numbers_are}
 use Rattle.typed_tree.proofs.Measured.{entries_are}
 use Rattle.typed_tree.proofs.Quiet.{inner_stmt}
-use Rattle.typed_tree.proofs.Rows.{loops_have_rows}
+use Rattle.typed_tree.proofs.Rows.{as_many_rows, loops_have_rows}
 use Rattle.typing.specs.Passing.{After, after}
 use Rattle.typing.specs.Sound.{HasLoops, IsLeft, IsTyped, stands}
 use Rattle.typing_laws.specs.Lawful.{IsOutlineOf, Lawful, TellsHeading, TellsHeadings}
@@ -128,14 +128,23 @@ module _ (program : Program) (a : After (Unit {0})) (tree : Tree) (lawful : Lawf
       told ∙ lawful.loops ∙ ap (λ numbers. range_with_len 0 (length numbers)) (sym told)
       ∙ ap (range_with_len 0) (length-map (loops_of tree) (λ one. one.0))
 
+  -- each row of its table is that of a loop
+  few_rows : HasLoops tree → length tree.loops.items ≤ most_numbered
+  few_rows loops =
+      let as_many : length tree.loops.items ≡ length (loops_of tree) =
+      sym (length-map tree.loops.items loop_row) ∙ ap length loops ∙ as_many_rows tree in
+      let told = sym (length-map (loops_of tree) (λ one. one.0)) ∙ ap length (sym (loop_numbers_are tree) ∙ ap loops_of_look looks) in
+      subst (λ n. n ≤ most_numbered) (sym (as_many ∙ told)) lawful.few_loops
+
   pub has_types : BeginWithRequired tree.types
   has_types = subst BeginWithRequired (sym left.types) lawful.types
 
   -- it is well formed, if its table of loops is, and if operands are sets or numbers as they are taken
   pub is_well_formed : HasLoops tree → are_held tree.blocks.items ≡ true → IsWellFormed tree
   is_well_formed loops held = record {
-    few_variables = subst (λ variables. length variables ≤ most_variables) (sym left.variables) lawful.few_variables;
-    few_blocks = subst (λ n. n ≤ most_entries) (sym count) lawful.few_blocks;
+    few_variables = subst (λ variables. length variables ≤ most_numbered) (sym left.variables) lawful.few_variables;
+    few_blocks = subst (λ n. n ≤ most_numbered) (sym count) lawful.few_blocks;
+    few_loops = few_rows loops;
     required = has_types;
     declared =
         subst (λ n. list_all (λ (v : Variable). nat_lt v.block n) tree.variables.items ≡ true) (sym count)

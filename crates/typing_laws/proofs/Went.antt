@@ -196,7 +196,7 @@ inner_mark {depth = depth} new regions records variables headings enclosing ends
 
 inner_step : {acts : Bool} {from to : ℕ} {look : Look} {old new : Passed} → Step acts Nobody from to look old new → IsInner from to look old new
 inner_step {new = new} (Entry one few is) = inner_mark new refl refl refl refl refl (ap (λ n. n.2 ++ []) is)
-inner_step {new = new} (Loop one few is) = inner_mark new refl refl refl refl refl (ap (λ n. n.2 ++ []) is)
+inner_step {new = new} (Loop one few room is) = inner_mark new refl refl refl refl refl (ap (λ n. n.2 ++ []) is)
 inner_step {new = new} (Marked one none) = inner_mark new refl refl refl refl refl (ap (λ n. n.2 ++ []) none)
 inner_step {from = depth} {old = old} (Record region opened) = record {
   regions = refl;
@@ -243,7 +243,7 @@ inner (Controlled {look = look} root way) =
 deeper_step : {from to : ℕ} {look : Look} {old new : Passed} → Step true Nobody from to look old new → Step true Nobody (suc from) (suc to) look old new
 deeper_step (Token place) = Token place
 deeper_step (Entry one few is) = Entry one few is
-deeper_step (Loop one few is) = Loop one few is
+deeper_step (Loop one few room is) = Loop one few room is
 deeper_step (Marked one none) = Marked one none
 deeper_step (Site kind place few) = Site kind place few
 deeper_step (Point place few) = Point place few

@@ -12,7 +12,7 @@ use Rattle.typed_tree.specs.declared.tree.FunctionResult.{FunctionResult}
 use Rattle.typed_tree.specs.declared.tree.Heading.{Heading}
 use Rattle.typed_tree.specs.Ids.{AreByPlace, Stands}
 use Rattle.typed_tree.specs.Look.{Look, Mark, BlockEnds, entries_of_look, loops_of_look, blocks_of_look, are_formed}
-use Rattle.typed_tree.specs.WellFormed.{Outline, most_entries, most_variables, are_few_cells, is_heading}
+use Rattle.typed_tree.specs.WellFormed.{Outline, most_entries, most_numbered, are_few_cells, is_heading}
 use Rattle.typing.specs.Passing.{After}
 use Rattle.typing.specs.Steps.{most_sites}
 use Rattle.typing.specs.Typing.{typing}
@@ -53,6 +53,7 @@ pub record Lawful (program : Program) (a : After (Unit {0})) : Type 0 where
   pub few_entries : length (entries_of_look a.look) ≤ most_entries
   -- its loops are numbered from 0, in the order of their first words
   pub loops : loops_of_look a.look ≡ range_with_len 0 (length (loops_of_look a.look))
+  pub few_loops : length (loops_of_look a.look) ≤ most_numbered
   -- its blocks are numbered from 0 by their headings, and each ends once
   pub blocks : IsPermutation (range_with_len 0 (length a.passed.headings)) (blocks_of_look a.look)
   pub a_block : 0 < length a.passed.headings
@@ -72,8 +73,8 @@ pub record Lawful (program : Program) (a : After (Unit {0})) : Type 0 where
   pub opened : opened_behind [] a.look ≡ Some []
   -- the result of each function is assigned somewhere
   pub assigned : are_assigned a.look ≡ true
-  pub few_variables : length a.passed.variables ≤ most_variables
-  pub few_blocks : length a.passed.headings ≤ most_entries
+  pub few_variables : length a.passed.variables ≤ most_numbered
+  pub few_blocks : length a.passed.headings ≤ most_numbered
   -- each variable is one that a block declares
   pub declared : list_all (λ variable. nat_lt variable.block (length a.passed.headings)) a.passed.variables ≡ true
   pub few_sites : length a.passed.sites ≤ most_sites
