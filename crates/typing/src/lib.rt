@@ -26,4 +26,4 @@ pub use functions::BegunFunction;
 pub use names::{folded, heading_name};
 pub use records::{DenotedVariable, OpenRecord};
 pub use strings::characters;
-pub use typer::{MOST_BLOCKS, MOST_ENTRIES, MOST_SITES, MOST_NUMBERED, Typer};
+pub use typer::{MOST_BLOCKS, MOST_ENTRIES, MOST_NUMBERED, MOST_SITES, Typer};

@@ -5,8 +5,8 @@ use Rattle.checker_state.specs.View.{said_bound}
 use Rattle.checker_trail.proofs.Elements.{alone-moves, longer-moves}
 use Rattle.checker_trail.proofs.state.State.define_element.Goals as goal
 
-pub returns-in_default : goal.returns-in_default
-returns-in_default c = c.run_short.ensures.moves (with_element c.args.row (said_bound c.args.index))
+pub returns-in-Err : goal.returns-in-Err
+returns-in-Err c = c.run_short.ensures.moves (with_element c.args.row (said_bound c.args.index))
 
 pub returns-then-is_empty : goal.returns-then-is_empty
 returns-then-is_empty c =

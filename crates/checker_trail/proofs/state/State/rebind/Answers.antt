@@ -9,8 +9,8 @@ use Rattle.checker_trail.specs.Trail.{over_held}
 use Rattle.checker_trail.proofs.Steps.{unseen-moves}
 use Rattle.checker_trail.proofs.state.State.rebind.Goals as goal
 
-pub returns-in-None : goal.returns-in-None
-returns-in-None c =
+pub returns-in-Ok-None : goal.returns-in-Ok-None
+returns-in-Ok-None c =
     unseen-moves (over_held (filter_map (held_by c.args.how))) c.args.self.now c.rebind_all.new.self c.changing.new.self c.changing.ensures.same
     c.rebind_all.ensures
 
@@ -19,9 +19,9 @@ rebind_each-requires c =
     let held = said_all c.args.self.now.known.held.items in
     subst (λ (some : List Held). AreChanging c.args.how some c.deref.result.now)
     (sym (ap (λ (one : Core). said_all one.held) c.changing.ensures.same))
-    (subst (λ (places : List ℕ). AreChanging c.args.how held places) (sym c.deref.ensures.value) c.in-Some.ensures.places)
+    (subst (λ (places : List ℕ). AreChanging c.args.how held places) (sym c.deref.ensures.value) c.in-Ok-Some.ensures.places)
 
-pub returns-in-Some : goal.returns-in-Some
-returns-in-Some c =
+pub returns-in-Ok-Some : goal.returns-in-Ok-Some
+returns-in-Ok-Some c =
     unseen-moves (over_held (filter_map (held_by c.args.how))) c.args.self.now c.rebind_each.new.self c.changing.new.self c.changing.ensures.same
     c.rebind_each.ensures
