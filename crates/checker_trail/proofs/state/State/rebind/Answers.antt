@@ -1,4 +1,6 @@
-use Rattle.std.proofs.Common.{ap, subst, sym, List, ℕ}
+use Rattle.std.proofs.Common.{ap, subst, sym, List, ℕ, Option}
+use Rattle.std.specs.Global.{Vec}
+use Rattle.std.specs.Option.{IfSome}
 use Rattle.std.specs.List.{filter_map}
 use Rattle.checker_state.specs.State.{Held}
 use Rattle.checker_state.specs.View.{held_by}
@@ -19,7 +21,9 @@ rebind_each-requires c =
     let held = said_all c.args.self.now.known.held.items in
     subst (λ (some : List Held). AreChanging c.args.how some c.deref.result.now)
     (sym (ap (λ (one : Core). said_all one.held) c.changing.ensures.same))
-    (subst (λ (places : List ℕ). AreChanging c.args.how held places) (sym c.deref.ensures.value) c.in-Ok-Some.ensures.places)
+    (subst (λ (places : List ℕ). AreChanging c.args.how held places) (sym c.deref.ensures.value)
+    (subst (λ (found : Option (Vec ℕ)). IfSome found (λ one. AreChanging c.args.how held one.items)) c.in-Ok-Some.field-0-is
+    c.in-Ok-Some.ensures.places))
 
 pub returns-in-Ok-Some : goal.returns-in-Ok-Some
 returns-in-Ok-Some c =
