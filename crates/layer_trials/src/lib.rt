@@ -17,6 +17,8 @@ mod lexemes;
 #[cfg(test)]
 mod meanings;
 #[cfg(test)]
+mod passing;
+#[cfg(test)]
 mod preparing;
 #[cfg(test)]
 mod ranges;
