@@ -1,13 +1,15 @@
 -- What is known of a run of the machine, where one knows how a longer one ends.
 use Rattle.code_generator.proofs.Words.{◌≡◌, ℕ, ◌<◌, ◌≤◌, ◌⊎◌, ⊎_elim, List, ◌++◌, append_assoc, sym, ap, ◌∙◌, subst, arith, cases_lt, Instr, Tree, Ending}
+use Rattle.code_generator.proofs.Words.{Bool, true, false}
 use Rattle.code_generator.proofs.Words.{State}
 use Rattle.meaning.specs.declared.outcome.Ending.TheVariants as ending
 use Rattle.meaning.specs.Meaning.{meaning}
 use Rattle.stack_machine.specs.declared.stop.Stop.{Stop}
 use Rattle.stack_machine.specs.declared.stop.Stop.TheVariants as stop
+use Rattle.stack_machine.specs.Laws.{IsCut}
 use Rattle.stack_machine.specs.Machine.{Tables}
 use Rattle.stack_machine.specs.Run.{Outcome, steps}
-use Rattle.code_generator.specs.Follows.{BeginsWith, StopsAs, DoesAll, DoesAsMuch, IsExplained, IsFullAtStart, IsFullAtCall}
+use Rattle.code_generator.specs.Follows.{BeginsMeaning, BeginsWith, StopsAs, DoesAll, DoesAsMuch, IsExplained, IsExplainedAs, IsFullAtStart, IsFullAtCall}
 use Rattle.code_generator.proofs.Reach.{IsOver, WritesOn, begins_itself, longer, one_end, grows_to}
 
 -- a stop that is an end of the program
@@ -55,10 +57,6 @@ pub record Leads (run last : Outcome) : Type 0 where
   pub over : IsOver run.stop → run ≡ last
   pub begins : BeginsWith last.output run.output
 
--- the outputs of a longer run begin the program's
-abbrev pub BeginsMeaning : Tree → List ℕ → Outcome → Type 0
-BeginsMeaning tree input last = (turns : ℕ) × BeginsWith (meaning tree input turns).output last.output
-
 module _ (tree : Tree) (input : List ℕ) (cells : ℕ) where
   -- a run that is over
   over_there : (run last : Outcome) (s : Stop) → run.stop ≡ s → Leads run last → IsOver s → run ≡ last
@@ -67,7 +65,7 @@ module _ (tree : Tree) (input : List ℕ) (cells : ℕ) where
   last_stop : (run last : Outcome) (s : Stop) → run.stop ≡ s → Leads run last → IsOver s → last.stop ≡ s
   last_stop run last s e l over = sym (ap (λ (o : Outcome). o.stop) (over_there run last s e l over)) ∙ e
 
-  began : (run last : Outcome) → Leads run last → BeginsMeaning tree input last → (turns : ℕ) × BeginsWith (meaning tree input turns).output run.output
+  began : (run last : Outcome) → Leads run last → BeginsMeaning tree input last → BeginsMeaning tree input run
   began run last l whole = (whole.0, begins_further (meaning tree input whole.0).output last.output run.output whole.1 l.begins)
 
   -- where a longer run does all that the program does
@@ -140,3 +138,12 @@ pub leads_before : (tables : Tables) (code : List Instr) (b j : ℕ) (m : State)
     → Leads (steps tables code b m) (steps tables code j m)
 leads_before tables code b j m on le =
     record { over = longer tables code b j le m; begins = grows_to tables code b j le m on }
+
+-- a run whose reader may fail, beside those of the same code that go on, each of which is explained
+pub explained_cut : (is_cut : Bool) (tree : Tree) (input : List ℕ) (cells : ℕ) (run : Outcome) (longer : ℕ → Outcome) (budget : ℕ)
+    → IsCut is_cut run longer budget → ((n : ℕ) → IsExplained tree input cells (longer n) (longer n).stop) → IsExplainedAs is_cut tree input cells run
+explained_cut true tree input cells run longer budget h sound =
+    let wrote : BeginsMeaning tree input (record { output = run.output; stop = stop.More }) =
+    subst (λ (o : Outcome). IsExplained tree input cells o o.stop) h.1 (sound h.0) in
+    wrote
+explained_cut false tree input cells run longer budget h sound = subst (λ (o : Outcome). IsExplained tree input cells o o.stop) h (sound budget)

@@ -21,10 +21,12 @@ use Rattle.meaning.specs.Laws.{state_after}
 use Rattle.meaning.specs.Meaning as meant
 use Rattle.meaning.specs.Meaning.{Meaning, effect_of, ended, meaning}
 use Rattle.stack_machine.specs.declared.stop.Stop.TheVariants as stop
+use Rattle.run_ports.specs.Feeding.{failing}
+use Rattle.stack_machine.specs.Failures.{is_read_failed}
 use Rattle.stack_machine.specs.Frames.{entered}
 use Rattle.stack_machine.specs.Machine.{Tables, tables_of, with_frame}
 use Rattle.stack_machine.specs.Run as runs
-use Rattle.stack_machine.specs.Run.{Outcome, machine, steps}
+use Rattle.stack_machine.specs.Run.{Outcome, machine, machine_on, steps}
 use Rattle.check_remover.specs.Strip.{check_site, is_among, stays, moved_place, KeepsInstructions}
 use Rattle.code_scheme.specs.Code.{block_code, blocks_code, program_code, stmt_code}
 use Rattle.code_scheme.specs.Need.{block_need}
@@ -39,7 +41,8 @@ use Rattle.code_generator.proofs.Calling.{enters, full}
 use Rattle.code_generator.proofs.Calls.{calls_run}
 use Rattle.code_generator.proofs.Cells.{small_block}
 use Rattle.code_generator.proofs.Closing.{Closes, closing, count_grows, first_block, more_behind, most_repeats, repeats_within, take_short}
-use Rattle.code_generator.proofs.Explained.{as_much, as_much_more, end_over, explained_done, explained_full, explained_more, leads_before, leads_to, stops_end}
+use Rattle.code_generator.proofs.Explained.{as_much, as_much_more, end_over, explained_cut, explained_done, explained_full}
+use Rattle.code_generator.proofs.Explained.{explained_more, leads_before, leads_to, stops_end}
 use Rattle.code_generator.proofs.Withs.{block_good}
 use Rattle.code_generator.proofs.ProgramStart as started
 use Rattle.code_generator.proofs.Reach.{Target, StandsAt, Stands, stands_front, stands_back, Comes, IsOver, Stops, comes_by, comes_on, comes_less, WritesOn}
@@ -359,9 +362,16 @@ module _ (known : Known) (tree : Tree) (well : IsWellFormed tree) (short : is_to
       → machine code input cells budget ≡ runs.run_of target.tables target.code (runs.whole input) cells budget =
       λ input cells budget. ap (λ t. runs.run_of t code.instructions.items (runs.whole input) cells budget) tables
       ∙ ap (λ i. runs.run_of target.tables i (runs.whole input) cells budget) is in
+      let sound_there : (input : List ℕ) (cells budget : ℕ) → cells ≤ most_cells
+      → IsExplained tree input cells (machine code input cells budget) (machine code input cells budget).stop =
+      λ input cells budget small. subst (λ r. IsExplained tree input cells r r.stop) (sym (same input cells budget))
+      (sound f.0 f.1 f.2 input cells small budget) in
       record {
-        sound = λ input cells budget small. subst (λ r. IsExplained tree input cells r r.stop) (sym (same input cells budget))
-            (sound f.0 f.1 f.2 input cells small budget);
+        sound = sound_there;
+        failing = λ given rest cells budget small.
+            let run = machine_on code (failing given) cells budget in
+            explained_cut (is_read_failed run.stop) tree (given ++ rest) cells run (machine code (given ++ rest) cells) budget
+            (known.failures code given rest cells budget) (λ n. sound_there (given ++ rest) cells n small);
         complete = λ input cells turns small. subst (λ (g : ℕ → Outcome). ((budget : ℕ) × DoesAsMuch tree (meaning tree input turns) (g budget))
             ⊎ ((budget : ℕ) × ((g budget).stop ≡ stop.StoreFull))) (sym (λ i budget. same input cells budget i)) (complete f.0 f.1 f.2 input cells small turns);
       }

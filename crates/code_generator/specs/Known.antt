@@ -3,7 +3,7 @@
 use Rattle.types.specs.Laws.{ComponentsAreCells, ComponentsStandOnce, ScalarsHaveOneComponent}
 use Rattle.types.specs.Laws.{ElementsLieInOrder, FieldsLieInOrder}
 use Rattle.meaning.specs.Laws.{DeeperCallsChangeNothing, LoopsGoRoundByRound, PiecesUseTurnsExactly}
-use Rattle.stack_machine.specs.Laws.{OutputOnlyGrows}
+use Rattle.stack_machine.specs.Laws.{OutputOnlyGrows, ReadFailuresBegin}
 
 pub record Known : Type 0 where
   pub cells : ComponentsAreCells
@@ -15,3 +15,4 @@ pub record Known : Type 0 where
   pub rounds : LoopsGoRoundByRound
   pub deeper : DeeperCallsChangeNothing
   pub output : OutputOnlyGrows
+  pub failures : ReadFailuresBegin

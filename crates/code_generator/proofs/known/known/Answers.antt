@@ -11,4 +11,5 @@ returns c = record {
   rounds = c.loops_go_round_by_round.ensures;
   deeper = c.deeper_calls_change_nothing.ensures;
   output = c.output_only_grows.ensures;
+  failures = c.read_failures_begin.ensures;
 }
