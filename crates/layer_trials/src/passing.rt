@@ -1,4 +1,4 @@
-//! Whether a counted reader and a counted writer pass on each call once, with its piece, and answer what they are given.
+//! Whether a counted reader and a counted writer pass on each call once, with its piece, and answer what they get.
 
 ghost use Rattle.std.specs.Prelude.{◌≤◌, IfOk};
 
