@@ -3,7 +3,8 @@ still what the sources say. bin/at_hand, bin/prove, bin/tried.py and the tests g
 
 A program may lie in out/proved/NAME, which bin/prove or the gate has proved and built, and in out/tried/NAME, which was
 built from the same sources without any proof. A file `key` beside it has the checksum of all that it was built from,
-the kit's line and the checksum of the program itself."""
+the kit's line and the checksum of the program itself; the bitcode that it was compiled of lies there too, but not that
+of the gate."""
 
 import fcntl
 import functools
@@ -145,6 +146,10 @@ def path_of(kind, name):
     return os.path.join(folder_of(kind, name), name)
 
 
+def bitcode_of(kind, name):
+    return path_of(kind, name) + ".bc"
+
+
 def key_text(key, kit, program):
     return f"{key}\n{kit}\n{bytes_sum(program)}\n"
 
@@ -173,12 +178,14 @@ def clear_rooms(kind, name=""):
             shutil.rmtree(os.path.join(folder, entry), ignore_errors=True)
 
 
-def put(kind, name, program, key, kit):
-    """Puts a program that was built where programs of its kind lie."""
+def put(kind, name, program, key, kit, bitcode=None):
+    """Puts a program that was built where programs of its kind lie, with its bitcode where that was kept."""
     with room(kind, name) as made:
         new, old = os.path.join(made, "new"), os.path.join(made, "old")
         os.mkdir(new)
         shutil.copy2(program, os.path.join(new, name))
+        if bitcode and os.path.isfile(bitcode):
+            shutil.copy2(bitcode, os.path.join(new, f"{name}.bc"))
         replace_text(os.path.join(new, "key"), key_text(key, kit, program))
         if os.path.isdir(folder_of(kind, name)):
             os.rename(folder_of(kind, name), old)

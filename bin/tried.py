@@ -2,10 +2,10 @@
 
 The kit's command `rt try` compiles a program without proofs, for a run that it looks after, and keeps no file. So it
 runs in a view of the kit: links to all that the kit has, but for a copy of `rt`, which finds its kit by its own place,
-and for two scripts: one in the place of the compiler, which keeps the program's bitcode with the words it was called
-with, and one in the place of the prover, which leaves out the search for hints that `rt try` begins beside a try. The
-kit's own compiler then takes the bitcode, optimises and leaves the address sanitizer out, and its linker makes the
-program. That keeps the tests which proofs make needless, as those of indexes and of overflow."""
+and for two scripts: one in the place of the compiler, which keeps the program's bitcode (bin/bitcode.py), and one in
+the place of the prover, which leaves out the search for hints that `rt try` begins beside a try. The kit's own compiler
+then takes the bitcode, optimises and leaves the address sanitizer out, and its linker makes the program. That keeps the
+tests which proofs make needless, as those of indexes and of overflow."""
 
 import os
 import shutil
@@ -13,18 +13,10 @@ import subprocess
 import sys
 import time
 
+from bitcode import ENDS, link_all, put_script, view_of_toolchain
 from programs import PARTS, TOP, TRIED, Sources, Stopped
 from programs import clear_rooms, kit_folder, needed_kit, put, replace_text, room
 
-# The kit compiles a small module first, to see whether the compiler works.
-LEAST = 100_000
-COMPILER = """#!/bin/sh
-if [ -f module.bc ] && [ "$(wc -c < module.bc)" -gt {least} ]; then
-  printf '%s\\n' "$@" > "{kept}.words" && cp module.bc "{kept}.part" && mv "{kept}.part" "{kept}"
-  exit 1
-fi
-exec "{clang}" "$@"
-"""
 PROVER = """#!/bin/sh
 for word; do
   [ "$word" != --start ] || exit 0
@@ -49,7 +41,8 @@ def build(name):
     clear_rooms(TRIED, name)
     with room(TRIED, name) as folder:
         key = copy_sources(name, kit, os.path.join(folder, "sources"))
-        put(TRIED, name, linked(folder, kept_bitcode(name, folder)), key, kit)
+        kept = kept_bitcode(name, folder)
+        put(TRIED, name, linked(folder, kept), key, kit, kept)
     say(name, f"built, after {time.monotonic() - begin:.0f} s")
 
 
@@ -68,14 +61,6 @@ def copy_sources(name, kit, top):
     return Sources(top, kit, PARTS[TRIED]).key(name)
 
 
-def link_all(one, other, but=()):
-    """Makes a folder of links to what is in another."""
-    os.makedirs(other)
-    for entry in os.listdir(one):
-        if entry not in but:
-            os.symlink(os.path.join(one, entry), os.path.join(other, entry))
-
-
 def view_of_kit(view, kept):
     """Makes the view of the kit in which the compiler keeps what it is given."""
     kit = kit_folder()
@@ -84,17 +69,9 @@ def view_of_kit(view, kept):
     for file in ("rt", "rtlib.py"):
         if os.path.isfile(os.path.join(kit, "bin", file)):
             shutil.copy2(os.path.join(kit, "bin", file), os.path.join(view, "bin", file))
-    link_all(os.path.join(kit, "toolchain"), os.path.join(view, "toolchain"), ("bin",))
-    link_all(os.path.join(kit, "toolchain", "bin"), os.path.join(view, "toolchain", "bin"), ("clang",))
-    clang, rattle = os.path.join("toolchain", "bin", "clang"), os.path.join("bin", "rattle")
-    put_script(view, clang, COMPILER.format(least=LEAST, kept=kept, clang=os.path.join(kit, clang)))
+    view_of_toolchain(os.path.join(view, "toolchain"), kept, ENDS)
+    rattle = os.path.join("bin", "rattle")
     put_script(view, rattle, PROVER.format(rattle=os.path.join(kit, rattle)))
-
-
-def put_script(folder, name, text):
-    with open(os.path.join(folder, name), "w", encoding="utf-8") as file:
-        file.write(text)
-    os.chmod(file.name, 0o755)
 
 
 def kept_bitcode(name, folder):

@@ -8,6 +8,8 @@ const [STDIN, STDOUT, STDERR] = [0, 1, 2];
 const [NOT_THERE, BAD_FILE, EXISTS, INVALID, NO_SPACE] = [2, 9, 17, 22, 28];
 const [WRITES, CREATES, EXCLUSIVE, TRUNCATES] = [0o3, 0o100, 0o200, 0o1000];
 const [REGULAR_FILE, OF_ALL_FIELDS] = [0o100644, 0x7ff];
+// The bytes in which a processor of the native program says what it can.
+const FEATURES = 32;
 
 // The memory that the module asks for: blocks whose sizes are powers of two, with a list of free ones for each size.
 class Heap {
@@ -230,6 +232,8 @@ class Host {
       },
       rattle_arg: (number, address, size) => this.argument(Number(number), Number(address), Number(size)),
       __sysv_signal: () => 0n,
+      // The proved program asks for the processor that it was compiled for; here it is compiled for none of them.
+      __x86_get_cpuid_feature_leaf: () => BigInt(this.put(new Uint8Array(FEATURES).fill(0xff))),
       open: (path, flags) => this.openFile(this.text(Number(path)), Number(flags)),
       close: (number) => (this.open.delete(number) ? 0 : this.fail(BAD_FILE)),
       lseek: () => -1n,

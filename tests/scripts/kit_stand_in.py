@@ -1,4 +1,5 @@
-"""A repository of a few crates and a kit that proves nothing, for tests of bin/pcom, bin/at_hand.py and bin/prove."""
+"""A repository of a few crates and a kit that proves nothing, for tests of bin/pcom, bin/at_hand.py, bin/prove and
+bin/page."""
 
 import os
 import shutil
@@ -9,7 +10,7 @@ import time
 import unittest
 
 TOP = os.path.dirname(os.path.dirname(os.path.dirname(os.path.abspath(__file__))))
-SCRIPTS = ("pcom", "pint", "at_hand.py", "prove", "plan.py", "programs.py", "tried.py", "files.sh")
+SCRIPTS = ("pcom", "pint", "at_hand.py", "prove", "plan.py", "programs.py", "bitcode.py", "tried.py", "files.sh")
 CRATES = """# Crates for a test.
 low:
 left: low thiserror
@@ -46,6 +47,9 @@ def text_of(path):
 def put(path, text):
     with open(path, "w") as file:
         file.write(text)
+def compile(clang, words, text):
+    put("module.bc", text + "\\n" + 100_000 * ".")
+    return os.spawnv(os.P_WAIT, clang, [clang, *words])
 words = sys.argv[1:]
 def behind(word):
     return words[words.index(word) + 1]
@@ -70,15 +74,17 @@ if "wrong" in text:
 clang = os.path.dirname(os.path.dirname(os.path.abspath(__file__))) + "/toolchain/bin/clang"
 os.chdir(tempfile.mkdtemp(dir=os.environ["WORK"]))
 words = ["--sysroot=elsewhere", "-x", "ir", "module.bc", "-o", "module.o", "-fPIE", "-O0", "-fsanitize=address"]
-for module in "small", text + "\\n" + 100_000 * ".":
-    put("module.bc", module)
-    if os.spawnv(os.P_WAIT, clang, [clang, *words]):
-        sys.exit("the compiler failed")
+put("module.bc", "small")
+if os.spawnv(os.P_WAIT, clang, [clang, *words]) or compile(clang, words, "tried " + text):
+    sys.exit("the compiler failed")
 log("ran", name)
 '''
 CLANG = '''
+if os.path.basename(sys.argv[0]) == "wasm-ld":
+    put(behind("-o"), "a module, " + text_of(words[-3]))
+    sys.exit()
 log("clang", *[word for word in words if word.startswith("-O") or word.startswith("-fs")])
-put(behind("-o"), "tried " + text_of(behind("ir")).split("\\n")[0])
+put(behind("-o"), text_of(behind("ir")).split("\\n")[0])
 '''
 LINK = '''
 made = [word for word in words if word.endswith(".o")][0]
@@ -98,7 +104,9 @@ if "wrong" in text:
     print("fn right: proved\\n" + os.path.abspath(words[3]) + ":1: not proved", flush=True)
     sys.exit(1)
 if made.endswith(".o"):
-    put(made, "proved " + text)
+    os.chdir(tempfile.mkdtemp(dir=os.environ["WORK"]))
+    if compile(behind("--toolchain") + "/bin/clang", ["-O3", "-x", "ir", "module.bc", "-o", made], "proved " + text):
+        sys.exit(1)
 else:
     os.mkdir(made)
 log("end", name)

@@ -51,7 +51,8 @@ class Nothing(AtHand):
         self.builds_tried()
         self.assertEqual(sorted(os.listdir(os.path.join(self.top, "out"))), ["pcom.at_hand", "pcom.lock", "tried"])
         self.assertEqual(os.listdir(os.path.join(self.top, "out", "tried")), ["pcom"])
-        self.assertEqual(sorted(os.listdir(os.path.join(self.top, "out", "tried", "pcom"))), ["key", "pcom"])
+        kept = sorted(os.listdir(os.path.join(self.top, "out", "tried", "pcom")))
+        self.assertEqual(kept, ["key", "pcom", "pcom.bc"])
 
     def test_help_and_version_and_a_source_that_cannot_be_read_need_no_build(self):
         with open(os.path.join(TOP, "bin", "help", "pcom"), encoding="utf-8") as file:

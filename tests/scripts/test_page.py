@@ -1,5 +1,6 @@
-"""Tests of the page that bin/page makes: its module does what the program does, by node; and the page runs a program in
-a browser without a screen. Where the page isn't made, or one of them isn't installed, that is said."""
+"""Tests of the page that bin/page makes: of which program it is, with a kit that proves nothing; its module does what
+the program does, by node; and the page runs a program in a browser without a screen. Where the page isn't made, or one
+of them isn't installed, that is said."""
 
 import base64
 import functools
@@ -22,6 +23,7 @@ SECONDS = 600
 sys.path.insert(0, os.path.join(TOP, "tests"))
 
 from case_files import A_FOLDER, NOWHERE, read_cases
+from kit_stand_in import Repository
 
 # What a case may ask of the compiler that the page can be asked too.
 WORDS = {b"--go", b"--keep-checks"}
@@ -84,6 +86,80 @@ class Module(PageCase):
                         self.assertEqual(came, (case.writes, case.tells, case.status))
 
 
+class Made(Repository):
+    """Of which program the page is made, and what it says of that."""
+
+    PARTS = ("bin/page", "bin/pcom_lines.py", "bin/tools", "page", "docs/explanations.ini", "examples/gallery")
+
+    def setUp(self):
+        super().setUp()
+        for part in self.PARTS:
+            one, other = os.path.join(TOP, part), os.path.join(self.top, part)
+            os.makedirs(os.path.dirname(other), exist_ok=True)
+            shutil.copytree(one, other) if os.path.isdir(one) else shutil.copy2(one, other)
+
+    def page(self, **how):
+        """What is told while it is made."""
+        ran = self.ran("page", **how)
+        self.assertEqual(ran.returncode, 0, ran.stderr)
+        return ran.stderr
+
+    def text_of(self, name):
+        with open(os.path.join(self.top, "out", "page", name), encoding="utf-8") as file:
+            return file.read()
+
+    def is_of(self, kind):
+        self.assertEqual(self.text_of("pcom.wasm"), f"a module, {kind} text of pcom")
+        said = json.loads(self.text_of("about.json"))["words"]
+        self.assertEqual("It isn't proved" in said, kind == "tried")
+        self.assertEqual("the code that was proved" in said, kind == "proved")
+        self.assertIn("a kit of no worth, 1", said)
+
+    def test_of_the_tried_program(self):
+        told = self.page()
+        self.is_of("tried")
+        self.assertIn("pcom: building it without proofs", told)
+        self.assertEqual([line[0] for line in self.calls()], ["try", "clang", "clang", "clang"])
+        self.assertIn("the page is ", self.page())
+        self.assertEqual(self.calls(), [])
+
+    def test_of_the_proved_program(self):
+        self.page()
+        self.proved("pcom")
+        self.calls()
+        self.assertIn("page: making the module of the proved program", self.page())
+        self.is_of("proved")
+        self.assertEqual(self.calls(), [["clang", "-O1"]])
+        self.page()
+        self.assertEqual(self.calls(), [])
+
+    def test_an_edit_brings_the_tried_one_back(self):
+        self.proved("pcom")
+        self.page()
+        self.is_of("proved")
+        with open(os.path.join(self.top, "crates", "left", "src", "lib.rt"), "a", encoding="utf-8") as file:
+            file.write("more\n")
+        self.page()
+        self.is_of("tried")
+
+    def test_of_a_program_whose_bitcode_was_not_kept(self):
+        self.proved("pcom")
+        os.remove(os.path.join(self.top, "out", "proved", "pcom", "pcom.bc"))
+        self.assertIn("page: the bitcode of the proved program wasn't kept", self.page())
+        self.is_of("tried")
+
+    def test_what_lies_there(self):
+        self.page()
+        names = os.listdir(os.path.join(self.top, "out", "page"))
+        for name in ("index.html", "page.mjs", "host.mjs", "worker.mjs", "sentences.json", "examples.json"):
+            self.assertIn(name, names)
+        self.assertIn("gallery/primes", [one["name"] for one in json.loads(self.text_of("examples.json"))])
+
+    def test_without_the_kit_that_is_told(self):
+        ran = self.ran("page", has_kit=False)
+        self.assertEqual((ran.returncode, ran.stderr), (3, "page: the Rattle kit's command rt is not on the path\n"))
+
+
 class Browser(PageCase):
     """A browser without a screen, which is spoken to over two pipes, in Chromium's protocol for tools."""
 
@@ -144,7 +220,8 @@ class Browser(PageCase):
         self.assertTrue(self.text_of("#told").startswith("14:3: possible error: case"))
         self.assertIn("29:18: possible error: overflow", self.text_of("#told"))
         self.assertTrue(self.text_of("#certificate").startswith("pcert 1\n"))
-        self.assertIn("It isn't proved", self.text_of("#about"))
+        with open(os.path.join(PAGE, "about.json"), encoding="utf-8") as file:
+            self.assertEqual(self.text_of("#about"), json.load(file)["words"])
         self.assertEqual(self.text_of("mark.told"), "case|+")
         # The marks lie behind the text, place for place.
         heights = self.value_of("['marks', 'text'].map((name) => document.getElementById(name).offsetHeight).join()")

@@ -92,6 +92,26 @@ class Order(Repository):
         self.assertEqual((ran.stderr, ran.returncode), ("prove: crates.txt has no crate nosuch\n", 3))
 
 
+class Kept(Repository):
+    """What lies there of a program once it is proved."""
+
+    def kept(self, name):
+        return sorted(os.listdir(os.path.join(self.top, "out", "proved", name)))
+
+    def test_the_program_and_its_bitcode(self):
+        self.proved()
+        for name in ("pcom", "pint"):
+            self.assertEqual(self.kept(name), ["key", name, f"{name}.bc"])
+            path = os.path.join(self.top, "out", "proved", name, f"{name}.bc")
+            with open(path, encoding="utf-8") as file:
+                self.assertEqual(file.readline(), f"proved text of {name}\n")
+        self.assertEqual(self.kept("low"), ["key", "low.rlib"])
+
+    def test_the_compiler_gets_the_words_of_the_kit(self):
+        self.proved("pint")
+        self.assertEqual([line for line in self.calls() if line[0] == "clang"], [["clang", "-O3"]])
+
+
 class Text(Repository):
     def test_a_line_a_crate_is_told(self):
         ran = self.proved()
