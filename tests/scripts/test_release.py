@@ -1,9 +1,6 @@
 """Tests of bin/release, on a clone of this repository with the programs at hand: what is in the archive and in the
 package, that the archive runs without the kit, and that two releases of one commit are the same bytes."""
 
-import argparse
-import importlib.machinery
-import importlib.util
 import os
 import re
 import shutil
@@ -16,16 +13,47 @@ TOP = os.path.dirname(os.path.dirname(os.path.dirname(os.path.abspath(__file__))
 SECONDS = 600
 sys.path.insert(0, os.path.join(TOP, "bin"))
 
-from programs import MAIN_PROGRAMS, PARTS, TRIED, Sources, key_text
+from programs import MAIN_PROGRAMS, PARTS, PROVED, TRIED, Sources, key_text, rows_of
 
 KIT = "a kit of tests"
 # The folders of commands but those that have a kit.
 PATH = [one for one in os.environ["PATH"].split(os.pathsep) if not os.path.exists(os.path.join(one, "rt"))]
 EXAMPLE = os.path.join("examples", "sum.pas")
+# What the gate says of a crate, of its tests, of one that is kept, and at its end.
+OF_CRATE = """== {name}
+fn {name}::one: proved
+logic=proved functions=3 sum=dac8 logic-built=trusted
+rt: {name} proved
+"""
+OF_TESTS = """== {name}: its tests
+logic=proved functions=4 tests=1 sum=dac8 logic-built=trusted
+rt: {name}: its tests are proved
+"""
+KEPT = "rt: {name} is kept: an earlier run on this machine proved the same files over the same libraries\n"
+END = """rt: must-fail lexer/one.edit: refused
+rt: lexer: its tests passed
+rt: ok; handles allowed: Abort; must-fail edits: 1 refused; every proof and must-fail edit was done in this run
+3 passed, 0 failed
+pcom: proved
+run: proved out/proved/pcom/pcom
+7 passed, 0 failed
+"""
+
+
+def gate_of(names, end=END):
+    """What the gate says of these crates, the last of them kept."""
+    *names, last = names
+    proved = [OF_CRATE.format(name=name) for name in names]
+    return "".join([*proved, OF_TESTS.format(name="lexer"), KEPT.format(name=last), end])
 
 
 def run(words, **given):
     return subprocess.run(words, stdin=subprocess.DEVNULL, capture_output=True, text=True, timeout=SECONDS, **given)
+
+
+def put_text(path, text):
+    with open(path, "w", encoding="utf-8") as file:
+        file.write(text)
 
 
 class Release(unittest.TestCase):
@@ -52,34 +80,33 @@ class Release(unittest.TestCase):
         cls.tree = cls.unpacked(cls.made)
 
     @classmethod
-    def put_program(cls, name, program):
-        """Puts a program where the tried one lies, as built of these sources."""
-        folder = os.path.join(cls.clone, "out", TRIED, name)
+    def put_program(cls, name, program, kind=TRIED):
+        """Puts a program where one of this kind lies, as built of these sources."""
+        folder = os.path.join(cls.clone, "out", kind, name)
         os.makedirs(folder)
         shutil.copy(program, os.path.join(folder, name))
-        key = Sources(cls.clone, KIT, PARTS[TRIED]).key(name)
-        with open(os.path.join(folder, "key"), "w", encoding="utf-8") as file:
-            file.write(key_text(key, KIT, program))
+        put_text(os.path.join(folder, f"{name}.bc"), "bitcode")
+        key = Sources(cls.clone, KIT, PARTS[kind]).key(name)
+        put_text(os.path.join(folder, "key"), key_text(key, KIT, program))
 
     @classmethod
     def release(cls, *words):
         return run([sys.executable, os.path.join(cls.clone, "bin", "release"), *words], env=cls.environment)
 
     @classmethod
-    def unpacked(cls, made):
+    def unpacked(cls, made, name="waupikoe-0.1.0-tried-x86_64"):
         if made.returncode:
             return None
-        archive = os.path.join(cls.clone, "out", "release", "waupikoe-0.1.0-tried-x86_64.tar.xz")
-        run(["tar", "-xf", archive, "-C", cls.folder], check=True)
-        return os.path.join(cls.folder, "waupikoe-0.1.0-tried-x86_64")
+        run(["tar", "-xf", os.path.join(cls.clone, "out", "release", f"{name}.tar.xz"), "-C", cls.folder], check=True)
+        return os.path.join(cls.folder, name)
 
     def setUp(self):
         if self.missing:
             self.skipTest(f"{self.missing[0]} isn't installed")
         self.assertEqual(self.made.returncode, 0, self.made.stderr)
 
-    def text_of(self, *path):
-        with open(os.path.join(self.tree, *path), encoding="utf-8") as file:
+    def text_of(self, *path, tree=None):
+        with open(os.path.join(tree or self.tree, *path), encoding="utf-8") as file:
             return file.read()
 
     def package(self):
@@ -162,19 +189,57 @@ class Release(unittest.TestCase):
         # What lay there is still there.
         self.test_sums()
 
-    def test_gate(self):
-        """The lines of the gate that are put into the archive."""
-        loader = importlib.machinery.SourceFileLoader("release", os.path.join(TOP, "bin", "release"))
-        module = importlib.util.module_from_spec(importlib.util.spec_from_loader("release", loader))
-        loader.exec_module(module)
-        log = os.path.join(self.folder, "log")
-        with open(log, "w", encoding="utf-8") as file:
-            file.write("lexer: logic=proved functions=3\nother\n12 passed, 0 failed\n")
-        release = module.Release(argparse.Namespace(gate=log, tried=True), self.folder)
-        self.assertEqual(release.verdicts(), ["lexer: logic=proved functions=3", "12 passed, 0 failed"])
-        with open(log, "w", encoding="utf-8") as file:
-            file.write("nothing\n")
-        self.assertRaises(module.Stopped, release.verdicts)
+    def put_gate(self, text):
+        put_text(os.path.join(self.folder, "gate"), text)
+        return "--gate", os.path.join(self.folder, "gate")
+
+    def test_proved(self):
+        """A release of programs that are proved, with the lines of the gate."""
+        made, aside = (os.path.join(self.clone, "out", name) for name in ("release", "aside"))
+        os.rename(made, aside)
+        self.addCleanup(os.rename, aside, made)
+        self.addCleanup(shutil.rmtree, made)
+        self.addCleanup(shutil.rmtree, os.path.join(self.clone, "out", PROVED))
+        for name in MAIN_PROGRAMS:
+            self.put_program(name, os.environ[name.upper()], PROVED)
+        *names, last = rows_of(self.clone)
+        made = self.release(*self.put_gate(gate_of([*names, last])))
+        self.assertEqual((made.returncode, made.stderr.replace("\n", "")), (0, self.said_of_commands()))
+        tree = self.unpacked(made, "waupikoe-0.1.0-x86_64")
+        self.assertEqual(self.text_of("RELEASE", tree=tree).splitlines()[2], "proved")
+        verdicts = self.text_of("VERDICTS", tree=tree).splitlines()
+        self.assertEqual(verdicts[0], f"{names[0]}: logic=proved functions=3 sum=dac8 logic-built=trusted")
+        self.assertEqual(len(verdicts), len(names) + 5)
+        self.assertIn("lexer: its tests: logic=proved functions=4 tests=1 sum=dac8 logic-built=trusted", verdicts)
+        self.assertTrue(verdicts[-4].startswith(f"{last} is kept: "), verdicts[-4])
+        self.assertEqual(verdicts[-3], "must-fail lexer/one.edit: refused")
+        self.assertTrue(verdicts[-2].startswith("ok; handles allowed: Abort; "), verdicts[-2])
+        self.assertEqual(verdicts[-1], "7 passed, 0 failed")
+        ran = run([os.path.join(tree, "bin", "pcom"), "--go", EXAMPLE], cwd=tree, env=self.environment)
+        self.assertEqual((ran.stderr, ran.returncode), ("", 0))
+        self.assertEqual(sorted(os.listdir(os.path.join(tree, "out", PROVED, "pcom"))), ["key", "pcom"])
+
+    def said_of_commands(self):
+        """What is told where commands that it takes aren't installed."""
+        manual = "release: help2man isn't installed, so there are no pages of manual"
+        package = "release: dpkg-deb isn't installed, so there is no package"
+        told = {"help2man": manual, "dpkg-deb": package}
+        return "".join(line for name, line in told.items() if not shutil.which(name))
+
+    def test_no_gate(self):
+        """What is no output of a gate that has passed over all crates is refused."""
+        names = list(rows_of(self.clone))
+        for text, why in (
+            ("nothing\n", "is no output of a gate that has passed"),
+            (gate_of(names, "7 passed, 1 failed\n"), "is no output of a gate that has passed"),
+            (gate_of(names[:-1]), f"says nothing of a proof of {names[-1]}"),
+            (gate_of(names).replace(f"== {names[0]}\n", "== other\n"), f"says nothing of a proof of {names[0]}"),
+        ):
+            made = self.release("--tried", *self.put_gate(text))
+            self.assertEqual(made.returncode, 3)
+            self.assertTrue(made.stderr.endswith(f"{why}\n"), made.stderr)
+        # What lay there is still there.
+        self.test_sums()
 
 
 if __name__ == "__main__":
