@@ -1,7 +1,10 @@
-"""A program that stands in for pcom in the tests of the scripts round it: it writes what it is told."""
+"""For tests of the scripts: a program that stands in for pcom and writes what it is told, and a Python that has some
+libraries."""
 
 import os
 import shlex
+import subprocess
+import sys
 
 SCRIPT = """#!/bin/sh
 {read}
@@ -36,3 +39,16 @@ def taken(folder, name):
     """What a file of a folder holds."""
     with open(os.path.join(folder, name), "rb") as file:
         return file.read()
+
+
+# Where Debian puts what it has for Python.
+DEBIANS = "/usr/bin/python3"
+
+
+def python_with(*libraries):
+    """A Python that has these libraries, the one that runs this or Debian's; None where neither has all of them."""
+    for python in (sys.executable, DEBIANS):
+        words = [python, "-c", f"import {', '.join(libraries)}"]
+        if os.path.exists(python) and not subprocess.run(words, stderr=subprocess.DEVNULL, check=False).returncode:
+            return python
+    return None

@@ -12,13 +12,11 @@ import sys
 import tempfile
 import unittest
 
-from stand_in import make_stand_in, put, taken
+from stand_in import make_stand_in, put, python_with, taken
 
 TOP = os.path.dirname(os.path.dirname(os.path.dirname(os.path.abspath(__file__))))
 PROGRAM = os.environ["PCOM"]
 SECONDS = 60
-# Where Debian puts what it has for Python.
-DEBIANS = "/usr/bin/python3"
 # The kinds of errors by their numbers in a code, from docs/CODE.md and the table of errors in docs/LANGUAGE.md.
 ERROR_OF_THE_PAGE = re.compile(r"^- `([a-z ]+)`, at ", re.M)
 TEXT_OF_JSON = """
@@ -32,30 +30,51 @@ for line in sys.stdin:
         lines += textwrap.wrap(sentence, 100, initial_indent=" " * 4, subsequent_indent=" " * 4, **WHOLE)
     sys.stdout.buffer.write("".join(line + "\\n" for line in lines).encode("utf-8", "surrogateescape"))
 """.replace("**WHOLE", "break_long_words=False, break_on_hyphens=False")
-# Says which properties of a log SARIF doesn't have, and which it asks for that the log hasn't.
-CHECK_SARIF = """
-import attr, json, sarif_om, sys
-CLASSES = {"runs": "Run", "tool": "Tool", "driver": "ToolComponent", "rules": "ReportingDescriptor",
-    "results": "Result", "message": "Message",
-    "shortDescription": "MultiformatMessageString", "help": "MultiformatMessageString",
-    "invocations": "Invocation", "locations": "Location", "physicalLocation": "PhysicalLocation",
-    "artifactLocation": "ArtifactLocation", "region": "Region"}
-def check(it, name):
-    if isinstance(it, list):
-        for one in it:
-            check(one, name)
-    elif isinstance(it, dict):
-        known = {a.metadata["schema_property_name"]: a for a in attr.fields(getattr(sarif_om, name))}
-        for key in it.keys() - known.keys():
-            print("no property of", name, key)
-        for key, a in known.items():
-            if a.default is attr.NOTHING and key not in it:
-                print("not there in", name, key)
-        for key, one in it.items():
-            if isinstance(one, dict) or isinstance(one, list) and one and isinstance(one[0], dict):
-                check(one, CLASSES[key])
-check(json.load(open(sys.argv[1])), "SarifLog")
+# Says what in the logs isn't as the schema has it.
+CHECK_LOGS = """
+import json, jsonschema, sys
+schema, *logs = [json.load(open(path)) for path in sys.argv[1:]]
+checker = jsonschema.Draft7Validator(schema, format_checker=jsonschema.FormatChecker())
+checker.check_schema(schema)
+for log in logs:
+    faults = [f"{'/'.join(map(str, it.absolute_path))}: {it.message}" for it in checker.iter_errors(log)]
+    print(json.dumps(faults))
 """
+# Says what in the schema isn't as in the classes of sarif_om, which were made of the standard's own schema.
+CHECK_SCHEMA = """
+import attr, json, sarif_om, sys
+for name, known in json.load(open(sys.argv[1]))["definitions"].items():
+    fields = attr.fields(getattr(sarif_om, name[0].upper() + name[1:]))
+    theirs = {it.metadata["schema_property_name"]: it.default is attr.NOTHING for it in fields}
+    for key in known["properties"]:
+        if key not in theirs:
+            print(f"{name} has no {key}")
+    for key, is_required in theirs.items():
+        if is_required and key not in known.get("required", []):
+            print(f"{name} needs {key}")
+"""
+SCHEMA = os.path.join(os.path.dirname(os.path.abspath(__file__)), "sarif_2_1_0.json")
+# Where a log is made wrong: a path in it, and what is put there; None takes it out.
+WRONG = (
+    (["version"], "2.0.0"),
+    (["version"], None),
+    (["runs", 0, "tool"], None),
+    (["runs", 0, "tool", "driver", "name"], None),
+    (["runs", 0, "tool", "driver", "rules", 0, "id"], 7),
+    (["runs", 0, "tool", "driver", "rules", 0, "id"], None),
+    (["runs", 0, "columnKind"], "bytes"),
+    (["runs", 0, "invocations", 0, "executionSuccessful"], "yes"),
+    (["runs", 0, "results", 0, "level"], "possible error"),
+    (["runs", 0, "results", 0, "message"], "overflow"),
+    (["runs", 0, "results", 0, "message", "text"], None),
+    (["runs", 0, "results", 0, "place"], 4),
+    (["runs", 0, "results", 0, "locations"], {}),
+    (["runs", 0, "results", 0, "locations", 0, "physicalLocation", "artifactLocation"], None),
+    (["runs", 0, "results", 0, "locations", 0, "physicalLocation", "artifactLocation", "uri"], "a b.pas"),
+    (["runs", 0, "results", 0, "locations", 0, "physicalLocation", "region", "startLine"], 0),
+    (["runs", 0, "results", 0, "locations", 0, "physicalLocation", "region", "startLine"], None),
+    (["runs", 0, "results", 0, "locations", 0, "physicalLocation", "region", "startColumn"], 0),
+)
 SOURCES = {
     "open": b"program p(output);\nvar x: integer;\nbegin\n\twrite(1: 1); { \xc3\xa9 } write(x: 1)\nend.\n",
     "overflow": b"program p(input, output);\nvar x: integer;\nbegin\n  read(x); x := x * x;\n"
@@ -202,17 +221,51 @@ class Sarif(RecordsCase):
         rules = [rule["id"] for rule in run["tool"]["driver"]["rules"]]
         for result in run["results"]:
             self.assertEqual(rules[result["ruleIndex"]], result["ruleId"])
+            for place in result.get("locations", []):
+                region = place["physicalLocation"]["region"]
+                self.assertGreaterEqual(region.get("endColumn", 1), region.get("startColumn", 1))
         return run["results"]
 
+    def faults(self, logs):
+        """What isn't as the schema has it in each of these logs."""
+        python = python_with("jsonschema")
+        if not python:
+            self.skipTest("Debian's python3-jsonschema isn't installed")
+        names = [f"{number}.sarif" for number, _ in enumerate(logs)]
+        for name, log in zip(names, logs):
+            put(self.folder, name, json.dumps(log).encode())
+        words = [python, "-c", CHECK_LOGS, SCHEMA, *names]
+        said = subprocess.run(words, cwd=self.folder, stdout=subprocess.PIPE, timeout=SECONDS, check=True).stdout
+        return [json.loads(line) for line in said.splitlines()]
+
     def test_schema(self):
-        can_check = [DEBIANS, "-c", "import attr, sarif_om"]
-        if not os.path.exists(DEBIANS) or subprocess.run(can_check, stderr=subprocess.DEVNULL).returncode:
+        """Logs of all kinds of runs are as the schema has them, and a log that is wrong anywhere isn't."""
+        put(self.folder, "bad.cert", b"pcert 1\n  foo\n")
+        runs = [[f"{name}.pas"] for name in SOURCES]
+        runs += [["--why", "overflow.pas"], ["--go", "open.pas"], ["--go", "input.pas"], ["none.pas"], ["--stop"]]
+        logs = [self.log(*words) for words in [*runs, ["--cert", "bad.cert", "open.pas"]]]
+        self.assertEqual(self.faults(logs), [[] for _ in logs])
+        whole = self.log("overflow.pas")
+        for (path, value), faults in zip(WRONG, self.faults([self.wrong(whole, *one) for one in WRONG])):
+            self.assertTrue(faults, (path, value))
+
+    def wrong(self, log, path, value):
+        log = json.loads(json.dumps(log))
+        *before, last = path
+        at = log
+        for step in before:
+            at = at[step]
+        at.pop(last) if value is None else at.__setitem__(last, value)
+        return log
+
+    def test_the_schema_is_that_of_the_standard(self):
+        """Each property in it is one of the standard's, and what the standard asks for it asks for too."""
+        python = python_with("attr", "sarif_om")
+        if not python:
             self.skipTest("Debian's python3-sarif-python-om isn't installed")
-        for words in (["overflow.pas"], ["silent.pas"], ["token.pas"], ["--go", "open.pas"], ["none.pas"]):
-            self.log(*words)
-            command = [DEBIANS, "-c", CHECK_SARIF, os.path.join(self.folder, "a.sarif")]
-            faults = subprocess.run(command, stdout=subprocess.PIPE, timeout=SECONDS, check=True).stdout
-            self.assertEqual(faults, b"", words)
+        words = [python, "-c", CHECK_SCHEMA, SCHEMA]
+        ran = subprocess.run(words, stdout=subprocess.PIPE, timeout=SECONDS, check=True)
+        self.assertEqual(ran.stdout, b"")
 
     def test_levels(self):
         for words, levels in (
@@ -260,10 +313,11 @@ class Marks(html.parser.HTMLParser):
             self.open.pop()
 
     def handle_data(self, data):
-        if not self.is_source or (self.open and self.open[-1]["class"] == "number"):
+        classes = {one["class"] for one in self.open}
+        if not self.is_source or "number" in classes:
             return
         self.text += data
-        if self.open:
+        if classes & {"told", "closed"}:
             self.marks[-1][1] += data
 
 
