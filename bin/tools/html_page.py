@@ -3,6 +3,7 @@
 import html
 
 from tools import pascal
+from tools.libraries import colours
 
 STYLE = """body { font: 16px/1.4 sans-serif; margin: 2em; max-width: 70em }
 pre { font: 14px/1.5 monospace; overflow-x: auto }
@@ -17,17 +18,22 @@ dt { margin-top: 1em; font-family: monospace }
 
 def page(path, source, records, sites):
     """The page of a source, with its records and its sites."""
-    marks = marks_of(records, sites)
+    marks, rules = marks_of(records, sites), colours()
     text = source.decode(pascal.ENCODING)
+    shown = Shown(text, kinds_of(text) if rules else ())
     title = html.escape(path)
     parts = [
         f'<!doctype html>\n<html lang="en">\n<meta charset="utf-8">\n<title>{title}</title>\n',
-        f"<style>\n{STYLE}</style>\n<h1>{title}</h1>\n",
+        f"<style>\n{STYLE}{rules}</style>\n<h1>{title}</h1>\n",
         f"<p>{html.escape(sites.last_line())}</p>\n{table(sites)}" if sites else "",
-        f"<pre>\n{''.join(lines_of(text, marks))}</pre>\n",
+        f"<pre>\n{''.join(lines_of(text, marks, shown))}</pre>\n",
         f"<dl>\n{''.join(entry(record) for record in records)}</dl>\n</html>\n",
     ]
     return "".join(parts).encode("utf-8", "replace")
+
+
+def has_colours():
+    return bool(colours())
 
 
 def marks_of(records, sites):
@@ -42,28 +48,70 @@ def marks_of(records, sites):
     return marks
 
 
-def lines_of(text, marks):
+class Shown:
+    """What a page shows of a text, piece by piece from its beginning, with the kinds of its tokens."""
+
+    def __init__(self, text, kinds):
+        self.text, self.at = text, 0
+        self.kinds = iter(kinds)
+        self.next_kind()
+
+    def next_kind(self):
+        size = len(self.text)
+        self.start, self.end, self.kind = next(self.kinds, (size, size, ""))
+
+    def upto(self, end):
+        """The next piece, which ends there."""
+        parts = []
+        while self.at < end:
+            if self.at < self.start:
+                parts.append(self.piece(min(end, self.start)))
+            elif self.at < self.end:
+                parts.append(f'<span class="{self.kind}">{self.piece(min(end, self.end))}</span>')
+            else:
+                self.next_kind()
+        return "".join(parts)
+
+    def piece(self, end):
+        before, self.at = self.at, end
+        return html.escape(self.text[before:end].encode(pascal.ENCODING).decode("utf-8", "replace"))
+
+
+def kinds_of(text):
+    """The tokens that have a colour: where they begin and end, and the class of their kind."""
+    for token in pascal.TOKEN.finditer(text):
+        kind = kind_of(token[0].lower(), token.lastgroup)
+        if kind:
+            yield *token.span(), kind
+
+
+def kind_of(text, group):
+    if group == "blank":
+        return "" if text.isspace() else "c"
+    if group == "word":
+        return "k" if text in pascal.RESERVED else "nb" if text in pascal.REQUIRED else ""
+    return {"string": "s", "number": "mi"}.get(group, "")
+
+
+def lines_of(text, marks, shown):
     """The lines of the source with their numbers and marks."""
     columns = {}
     for number, column in sorted(marks):
         columns.setdefault(number, []).append(column)
     for number, line in enumerate(text.split("\n"), 1):
-        at, parts = 0, [f'<span class="number" id="L{number}">{number}</span>']
+        begin, at, parts = shown.at, 0, [f'<span class="number" id="L{number}">{number}</span>']
         for column in columns.get(number, ()):
-            start = max(at, column - 1)
-            end = max(start, token_end(line, start))
-            parts += [shown(line[at:start]), marked(shown(line[start:end]) or " ", marks[number, column])]
-            at = end
-        yield "".join([*parts, shown(line[at:]), "\n"])
+            start = min(max(at, column - 1), len(line))
+            at = max(start, token_end(line, start))
+            parts.append(shown.upto(begin + start))
+            parts.append(marked(shown.upto(begin + at) or " ", marks[number, column]))
+        yield "".join([*parts, shown.upto(begin + len(line)), "\n"])
+        shown.at = begin + len(line) + 1
 
 
 def token_end(line, start):
     found = pascal.TOKEN.match(line, start)
     return found.end() if found and found.lastgroup != "blank" else start
-
-
-def shown(text):
-    return html.escape(text.encode(pascal.ENCODING).decode("utf-8", "replace"))
 
 
 def marked(text, said):

@@ -2,7 +2,8 @@
 
 import sys
 import textwrap
-import unicodedata
+
+from tools.libraries import cells_of
 
 WIDTH = 100
 MARGIN = "    "
@@ -43,10 +44,10 @@ def cells(text, start):
     for character in encoded(text.decode("utf-8", "replace")).decode(encoding()):
         if character == "\t":
             shown += [" "] * (TAB - (start + len(shown)) % TAB)
-        elif unicodedata.category(character) in ("Mn", "Me") and shown:
-            shown[-1] += character
-        elif unicodedata.east_asian_width(character) in "WF":
-            shown += [character, ""]
+        elif not character.isprintable():
+            shown.append("?")
+        elif cells_of(character) or not shown:
+            shown += [character, *[""] * (cells_of(character) - 1)]
         else:
-            shown.append(character if character.isprintable() else "?")
+            shown[-1] += character
     return shown
