@@ -3,7 +3,7 @@
 use crate::claim::{Claim, End};
 use crate::claims::entire;
 use crate::events::Event;
-use crate::memory::{number_of, row};
+use crate::lists::{number_of, row};
 use crate::parts::Array;
 use crate::program::Program;
 use checker_calls::visible::is_visible;

@@ -1,4 +1,4 @@
-use crate::memory::Memory;
+use crate::lists::Memory;
 use crate::parts::Array;
 use checker_rows::Rows;
 use checker_state::{Bound, bound_form};

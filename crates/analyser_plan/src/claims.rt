@@ -2,7 +2,7 @@
 
 use crate::claim::{Claim, End};
 use crate::events::Event;
-use crate::memory::row;
+use crate::lists::row;
 use crate::parts::{Array, Part, array_accessed};
 use crate::program::Program;
 use checker_rows::limits;

@@ -1,7 +1,7 @@
 //! What loops change, which variables may share a place (ISO 7185:1990, 6.6.3.3), and the certificate that lists it.
 
 use crate::events::Event;
-use crate::memory::{number_of, row, settle};
+use crate::lists::{number_of, row, settle};
 use crate::program::{Program, Question};
 use certificate::{AliasPair, Certificate, LoopClaims, Section, Version};
 use checker_calls::overlaps::{is_declared_in, may_overlap};

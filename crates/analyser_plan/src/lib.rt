@@ -7,7 +7,7 @@ mod claim;
 mod claims;
 pub mod events;
 mod frame;
-mod memory;
+mod lists;
 mod parts;
 mod places;
 mod plan;

@@ -1,4 +1,4 @@
-use crate::memory::{Memory, number_of};
+use crate::lists::{Memory, number_of};
 use domain::facts::{Path, Step};
 use typed_tree::tree::{Access, Base, PathStep, Selector, Tree};
 use types::{TypeForm, TypeId, TypeTable};

@@ -2,7 +2,7 @@
 
 use crate::claim::Claim;
 use crate::events::Event;
-use crate::memory::{row, settle};
+use crate::lists::{row, settle};
 use crate::program::Program;
 use certificate::Fact;
 use checker_calls::visible::{is_outward, is_value_parameter};

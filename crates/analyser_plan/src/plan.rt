@@ -1,4 +1,4 @@
-use crate::memory::number_of;
+use crate::lists::number_of;
 use crate::places::Grounds;
 use crate::program::{Program, Question};
 use analyser_tables::Ladders;

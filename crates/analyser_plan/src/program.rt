@@ -1,5 +1,5 @@
 use crate::events::{Event, events_of};
-use crate::memory::{Memory, number_of, row, settle};
+use crate::lists::{Memory, number_of, row, settle};
 use crate::parts::{Part, all_parts};
 use checker_calls::visible::is_outward;
 use checker_rows::Rows;

@@ -6,7 +6,7 @@ use place::Place;
 use reading::refusal::Refusal;
 use std::alloc::Global;
 use syntax_tree::{Expr, Link, RelationalOperator, Sign};
-use token_cursor::memory::boxed;
+use token_cursor::kept::boxed;
 
 /// A relation, by its left operand and what was read behind its operator.
 pub(crate) fn relation<'a>(

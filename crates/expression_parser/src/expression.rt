@@ -17,7 +17,7 @@ use reading::refusal::Refusal;
 use std::alloc::Global;
 use syntax_tree::{Actual, Designator, Expr, Link, Selector};
 use token_cursor::cursor::Cursor;
-use token_cursor::memory::put;
+use token_cursor::kept::put;
 use token_cursor::nesting::inside;
 use token_cursor::operator::Level;
 

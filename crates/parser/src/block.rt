@@ -16,7 +16,7 @@ use reading::refusal::Refusal;
 use std::alloc::Global;
 use syntax_tree::{Block, Routine, Stmt};
 use token_cursor::cursor::Cursor;
-use token_cursor::memory::put;
+use token_cursor::kept::put;
 use token_cursor::nesting::inside;
 
 /// A block (6.2.1), below which `levels` levels are left.

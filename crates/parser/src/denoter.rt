@@ -16,7 +16,7 @@ use reading::refusal::Refusal;
 use std::alloc::Global;
 use syntax_tree::{Name, TypeDenoter};
 use token_cursor::cursor::Cursor;
-use token_cursor::memory::{boxed, put};
+use token_cursor::kept::{boxed, put};
 use token_cursor::nesting::inside;
 
 /// A type denoter (6.4.1) in something below which `levels` levels are left.

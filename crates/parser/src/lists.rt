@@ -11,7 +11,7 @@ use lexer::token::{Kind, Symbol, Word};
 use reading::refusal::Refusal;
 use std::alloc::Global;
 use token_cursor::cursor::Cursor;
-use token_cursor::memory::put;
+use token_cursor::kept::put;
 
 /// What stands in a list with a symbol between each two.
 pub(crate) trait Part<'a>: Drop {

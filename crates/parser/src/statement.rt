@@ -16,7 +16,7 @@ use reading::refusal::Refusal;
 use std::alloc::Global;
 use syntax_tree::{Constant, Direction, Expr, Name, RecordVariable, Stmt};
 use token_cursor::cursor::Cursor;
-use token_cursor::memory::{boxed, put};
+use token_cursor::kept::{boxed, put};
 use token_cursor::nesting::inside;
 
 /// The statements of a compound statement (6.8.3.2), and its `end`. Below it `levels` levels are

@@ -7,6 +7,8 @@ mod accepting;
 #[cfg(test)]
 mod agreeing;
 #[cfg(test)]
+mod allocations;
+#[cfg(test)]
 mod feeding;
 #[cfg(test)]
 mod generated;
@@ -14,8 +16,6 @@ mod generated;
 mod hostile;
 #[cfg(test)]
 mod large;
-#[cfg(test)]
-mod memory;
 #[cfg(test)]
 mod numbers;
 #[cfg(test)]

@@ -4,7 +4,7 @@
 
 pub mod cursor;
 pub mod fault;
+pub mod kept;
 pub mod left_out;
-pub mod memory;
 pub mod nesting;
 pub mod operator;
