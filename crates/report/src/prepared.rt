@@ -1,4 +1,4 @@
-ghost use Rattle.std.specs.Prelude.{◌≡◌, IfErr, IfOk};
+ghost use Rattle.std.specs.Prelude.{◌≡◌, None, IfErr, IfOk, IsOk};
 ghost use Rattle.pcode_assembler.specs.Contents.{spelling};
 ghost use Rattle.report.specs.Courses.{Goes, writes_if};
 ghost use Rattle.report.specs.Pcom.{code_of, report_status, reports, spelled, writes_code};
@@ -73,7 +73,8 @@ fn certificate_for(
     path: Option<&str>,
     compiled: &Compiled,
 ) -> Result<Vec<u8>, AllocError>
-    ensures { IfOk result (λ text. IsThereFor (given path.entry) (spelled compiled.now) text.items) }
+    ensures text { IfOk result (λ text. IsThereFor (given path.entry) (spelled compiled.now) text.items) }
+    ensures unasked { path.entry ≡ None → IsOk result }
 {
     match path {
         Some(_) => certificate::write(alloc, &compiled.certificate),
@@ -83,7 +84,8 @@ fn certificate_for(
 
 // The text of a code, where it is to be written to a path.
 fn code_for(alloc: Global, path: Option<&str>, code: &Code) -> Result<Vec<u8>, AllocError>
-    ensures { IfOk result (λ text. IsThereFor (given path.entry) (spelling code.now) text.items) }
+    ensures text { IfOk result (λ text. IsThereFor (given path.entry) (spelling code.now) text.items) }
+    ensures unasked { path.entry ≡ None → IsOk result }
 {
     match path {
         Some(_) => code.write(alloc),
