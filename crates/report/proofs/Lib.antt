@@ -1,4 +1,5 @@
 mod OpenSites
 mod CourseLemmas
+mod Room
 mod RefusalLemmas
 mod StepLemmas

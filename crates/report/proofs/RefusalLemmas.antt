@@ -1,6 +1,6 @@
 -- The fault of a layer, as the whole compiler tells it, is a refusal of the source.
 use Rattle.std.proofs.Common.{◌≡◌, ◌≢◌, ⊎_elim, ℕ, List, [], Option, None, Some, Result, Err, map, true, false, refl, sym, subst, ap, ◌∙◌}
-use Rattle.std.specs.Prelude.{MatchResult}
+use Rattle.std.specs.Prelude.{Bool, MatchResult, not, ◌||◌}
 use Rattle.memory.specs.Refused.{the_refusal}
 use Rattle.lexer.specs.declared.token.Token.{Token}
 use Rattle.lexer.specs.declared.fault.LexFault.{LexFault}
@@ -20,7 +20,8 @@ use Rattle.certificate.specs.declared.fault.ReadFault.TheVariants as read
 use Rattle.certificate.specs.Text.{first_fault}
 use Rattle.code_generator.specs.declared.fault.GenFault.{GenFault}
 use Rattle.code_generator.specs.declared.fault.GenFault.TheVariants as generate
-use Rattle.code_generator.specs.Tables.{has_no_code}
+use Rattle.code_generator.specs.Tables.{has_no_code, has_room}
+use Rattle.code_scheme.specs.Large.{is_too_large}
 use Rattle.report_text.specs.declared.fault.Fault.{Fault}
 use Rattle.report_text.specs.declared.fault.Fault.TheVariants.{Memory, Lex, Parse, Typing, Certificate, Check, Code, Generate}
 use Rattle.report_text.specs.Faults.{lexer_fault, parser_fault, typing_fault, certificate_fault, checker_fault, generator_fault}
@@ -32,6 +33,7 @@ use Rattle.cert_checker.specs.Promise.{IsAccepted, IsRefusedFor}
 use Rattle.cert_checker.specs.Walk.{program_walk}
 use Rattle.report.specs.Headline.{IsWrittenAs, IsTypedTreeOf}
 use Rattle.report.specs.Steps.{IsSoundTreeOf}
+use Rattle.report.proofs.Room.{typed_has_room}
 use Rattle.report.specs.Refusals.{AreOf, IsRefusal, is_of_certificate}
 
 -- an answer that is this fault
@@ -76,10 +78,20 @@ checking-refusal source text tree certificate (check.Memory _) are h = tt
 checking-refusal source text tree certificate check.Foreign are h = (tree, certificate, are, h)
 checking-refusal source text tree certificate (check.Broken rule place) are h = (tree, certificate, are, h)
 
+-- a typed tree of a source has no code only where there would be too much of it
+pub large_alone : (tree : Tree) (source : List ℕ) → IsTypedTreeOf tree source → has_no_code tree ≡ true → is_too_large tree ≡ true
+large_alone tree source typed none =
+    by (is_too_large tree) (has_room tree) (typed_has_room tree source typed.0 typed.1.0 typed.1.1 typed.1.2 typed.2) none
+  where
+    by : (large room : Bool) → room ≡ true → (large || not room) ≡ true → large ≡ true
+    by true room has h = refl
+    by false true has h = absurd cc
+    by false false has h = absurd cc
+
 -- code is refused where there is too much of it
 pub generation-refusal : (source : List ℕ) (text : Option (List ℕ)) (tree : Tree) (certificate : CertificateRead) (fault : GenFault)
     → AreOf source text tree certificate
-    → (program_walk tree certificate).broken ≡ [] → (fault ≡ generate.TooLarge → has_no_code tree ≡ true)
+    → (program_walk tree certificate).broken ≡ [] → (fault ≡ generate.TooLarge → is_too_large tree ≡ true)
     → IsRefusal source text (generator_fault fault)
 generation-refusal source text tree certificate (generate.Memory _) are unbroken h = tt
 generation-refusal source text tree certificate generate.TooLarge are unbroken h = (tree, certificate, are, unbroken, h refl)

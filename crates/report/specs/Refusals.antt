@@ -19,7 +19,7 @@ use Rattle.checker_expressions.specs.declared.fault.CheckFault.TheVariants as ch
 use Rattle.cert_checker.specs.Promise.{IsAccepted, IsRefusedFor}
 use Rattle.cert_checker.specs.Walk.{program_walk}
 use Rattle.code_generator.specs.declared.fault.GenFault.TheVariants as generate
-use Rattle.code_generator.specs.Tables.{has_no_code}
+use Rattle.code_scheme.specs.Large.{is_too_large}
 use Rattle.report_text.specs.declared.fault.Fault.{Fault}
 use Rattle.report_text.specs.declared.fault.Fault.TheVariants.{Memory, Lex, Parse, Typing, Certificate, Check, Code}
 use Rattle.report_text.specs.declared.fault.Fault.TheVariants.{Generate}
@@ -70,5 +70,5 @@ IsRefusal source text (Check fault) =
 IsRefusal source text (Generate (generate.Memory _)) = ⊥
 IsRefusal source text (Generate generate.TooLarge) =
     (tree : Tree) × (certificate : CertificateRead) × AreOf source text tree certificate
-    × ((program_walk tree certificate).broken ≡ []) × (has_no_code tree ≡ true)
+    × ((program_walk tree certificate).broken ≡ []) × (is_too_large tree ≡ true)
 IsRefusal source text (Code fault) = ⊥

@@ -7,7 +7,7 @@ use Rattle.code_scheme.specs.Code.{program_code}
 use Rattle.code_scheme.specs.Large.{is_too_large}
 use Rattle.code_generator.specs.Tables.{has_room, site_table}
 use Rattle.report.proofs.OpenSites.{errs_at_open}
-use Rattle.report.proofs.RefusalLemmas.{refused_by, generation-refusal}
+use Rattle.report.proofs.RefusalLemmas.{refused_by, generation-refusal, large_alone}
 use Rattle.report.proofs.compile.coded.Goals as goal
 
 -- the checks that the remover takes out are of sites at which the program never errs
@@ -50,7 +50,7 @@ returns-in_err-full c = λ source text certificate sound judged.
     refused_by _ source text c.from_residual.result told.0 _ told.1 told.2
     (generation-refusal source text c.args.tree.now certificate c.in_err-full.field-0.0
     (record { typed = sound.typed; serves = judged.serves }) judged.valid.unbroken
-    (λ same. c.generate.ensures.too_large (c.in_err-full.was ∙ ap Err same)))
+    (λ same. large_alone c.args.tree.now source sound.typed (c.generate.ensures.too_large (c.in_err-full.was ∙ ap Err same))))
 
 pub returns-in_err-open_sites : goal.returns-in_err-open_sites
 returns-in_err-open_sites c = λ source text certificate sound judged.
