@@ -1,10 +1,10 @@
 //! Calls: what is known comes to where the called block begins, which is walked at once where it is due.
 
 use crate::analysis::{Analysis, is_told};
+use crate::tally::Tally;
 use analyser_plan::events::Event;
 use cert_checker::blocks::begin;
 use checker_calls::actuals::{Actual, Bindings, settle};
-use checker_expressions::visits::Visits;
 use checker_trail::{Mark, State};
 use std::alloc::AllocError;
 use std::mem;
@@ -34,7 +34,7 @@ impl<'a> Analysis<'a> {
         &mut self,
         events: Result<Vec<Event>, AllocError>,
         left: u32,
-        visits: &mut Visits,
+        visits: &mut Tally,
     ) -> bool {
         match events {
             Ok(events) => self.calls(&events, left, visits),
@@ -46,7 +46,7 @@ impl<'a> Analysis<'a> {
     }
 
     #[cycle(statement)]
-    fn calls(&mut self, events: &[Event], left: u32, visits: &mut Visits) -> bool {
+    fn calls(&mut self, events: &[Event], left: u32, visits: &mut Tally) -> bool {
         let mark = self.mark();
         for event in events {
             if let Event::Call { call, actuals } = event {
@@ -61,7 +61,7 @@ impl<'a> Analysis<'a> {
 
     // What is known comes to where a called block begins.
     #[cycle(statement)]
-    fn enter(&mut self, call: Call, actuals: &[Passed], left: u32, visits: &mut Visits) {
+    fn enter(&mut self, call: Call, actuals: &[Passed], left: u32, visits: &mut Tally) {
         let is_due = self.come_to(call, actuals, visits);
         match left.checked_sub(WALK) {
             Some(left) if is_due => self.visit(call.block, left, visits),
@@ -70,7 +70,7 @@ impl<'a> Analysis<'a> {
     }
 
     // The same, without a walk there. Whether the block has to be walked.
-    fn come_to(&mut self, call: Call, actuals: &[Passed], visits: &mut Visits) -> bool {
+    fn come_to(&mut self, call: Call, actuals: &[Passed], visits: &mut Tally) -> bool {
         let mut passed = self.walk.flow.actuals(actuals, visits);
         settle(actuals_hold_call(actuals), &mut passed);
         let bindings = bound(self.parameters(call), &passed);
@@ -79,7 +79,7 @@ impl<'a> Analysis<'a> {
     }
 
     // Goes on behind a call. No run comes behind that of a block whose end isn't reached yet.
-    fn leave_call(&mut self, call: Call, actuals: &[Passed], visits: &mut Visits) {
+    fn leave_call(&mut self, call: Call, actuals: &[Passed], visits: &mut Tally) {
         self.walk.flow.call(call, actuals, visits);
         if let Some(table) = self.exits.get(call.block as usize) {
             let is_reached = table.is_reached;
@@ -89,7 +89,7 @@ impl<'a> Analysis<'a> {
 
     /// Walks over a block, from what is known where it begins.
     #[cycle(statement)]
-    pub(crate) fn visit(&mut self, number: u32, left: u32, visits: &mut Visits) {
+    pub(crate) fn visit(&mut self, number: u32, left: u32, visits: &mut Tally) {
         let Some(block) = self.block(number) else {
             return;
         };

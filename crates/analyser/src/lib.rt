@@ -14,16 +14,17 @@ mod loops;
 mod outcome;
 mod rounds;
 mod statements;
+mod tally;
 mod ways;
 
 use crate::accepting::accepted;
 use crate::analysis::{Analysis, Course, Proposed};
 use crate::outcome::filled;
+use crate::tally::Tally;
 use analyser_plan::Plan;
 use cert_checker::program::grounds;
 use cert_checker::walk::Walk;
 use certificate::Certificate;
-use checker_expressions::visits::Visits;
 use checker_loops::loops::{all_claims, all_loop_aliases};
 use checker_loops::starts::all_declared;
 use checker_rows::Rows;
@@ -83,14 +84,13 @@ pub fn find(alloc: Global, tree: &Tree) -> Result<Found, AllocError>
         exits,
         loops,
     };
-    let mut visits = Visits::new();
+    let mut visits = Tally { entries: 0 };
     let given = given_facts(alloc, &rows, &frame, &course, proposed, &mut visits);
-    let visits = visits.entries();
     let mut refusals = 0;
     let certificate = accepted(alloc, tree, filled(&rows, frame, given?), &mut refusals)?;
     Ok(Found {
         certificate,
-        visits,
+        visits: visits.entries,
         refusals,
     })
 }
@@ -102,7 +102,7 @@ fn given_facts(
     frame: &Certificate,
     course: &Course,
     proposed: Proposed,
-    visits: &mut Visits,
+    visits: &mut Tally,
 ) -> Result<Proposed, AllocError> {
     let tree = rows.tree();
     let grounds = grounds(alloc, tree, frame)?;

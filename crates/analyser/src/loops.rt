@@ -1,5 +1,6 @@
 use crate::analysis::Analysis;
-use checker_expressions::visits::Visits;
+use crate::tally::Tally;
+use checker_expressions::count::Count;
 use checker_loops::claims::claim_facts;
 use checker_trail::Mark;
 use checker_ways::ways::Way;
@@ -17,7 +18,7 @@ impl<'a> Analysis<'a> {
         head: &LoopHead,
         body: &Stmt,
         left: u32,
-        visits: &mut Visits,
+        visits: &mut Tally,
     ) {
         for _ in 0..REPEATS {
             let mark = self.mark();
@@ -33,7 +34,7 @@ impl<'a> Analysis<'a> {
 
     // One turn of it, and the way out. Whether the turn moved what is known at its head.
     #[cycle(statement)]
-    fn while_turn(&mut self, head: &LoopHead, body: &Stmt, left: u32, visits: &mut Visits) -> bool {
+    fn while_turn(&mut self, head: &LoopHead, body: &Stmt, left: u32, visits: &mut Tally) -> bool {
         visits.tick(head.number);
         self.enter_loop(head.loop_number, None);
         let known = self.value(&head.condition, left, visits);
@@ -52,7 +53,7 @@ impl<'a> Analysis<'a> {
         head: &LoopHead,
         statements: &[Stmt],
         left: u32,
-        visits: &mut Visits,
+        visits: &mut Tally,
     ) {
         for _ in 0..REPEATS {
             let mark = self.mark();
@@ -73,7 +74,7 @@ impl<'a> Analysis<'a> {
         head: &LoopHead,
         statements: &[Stmt],
         left: u32,
-        visits: &mut Visits,
+        visits: &mut Tally,
     ) -> bool {
         visits.tick(head.number);
         self.enter_loop(head.loop_number, None);
@@ -88,7 +89,7 @@ impl<'a> Analysis<'a> {
 
     /// A for.
     #[cycle(statement)]
-    pub(crate) fn for_loop(&mut self, head: &ForHead, body: &Stmt, left: u32, visits: &mut Visits) {
+    pub(crate) fn for_loop(&mut self, head: &ForHead, body: &Stmt, left: u32, visits: &mut Tally) {
         let from = self.value(&head.first.value, left, visits);
         let to = self.value(&head.last.value, left, visits);
         let way = Way::of(self.state().table(), head, from, to);
@@ -118,14 +119,7 @@ impl<'a> Analysis<'a> {
 
     // Its turns.
     #[cycle(statement)]
-    fn for_turns(
-        &mut self,
-        head: &ForHead,
-        body: &Stmt,
-        way: &Way,
-        left: u32,
-        visits: &mut Visits,
-    ) {
+    fn for_turns(&mut self, head: &ForHead, body: &Stmt, way: &Way, left: u32, visits: &mut Tally) {
         for _ in 0..REPEATS {
             let mark = self.mark();
             if !self.for_turn(head, body, way, left, visits) {
@@ -146,7 +140,7 @@ impl<'a> Analysis<'a> {
         body: &Stmt,
         way: &Way,
         left: u32,
-        visits: &mut Visits,
+        visits: &mut Tally,
     ) -> bool {
         visits.tick(head.number);
         self.begin_turn(head.loop_number, way);

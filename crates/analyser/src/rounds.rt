@@ -2,8 +2,8 @@
 
 use crate::analysis::Analysis;
 use crate::calls::WALK;
+use crate::tally::Tally;
 use analyser_tables::Table;
-use checker_expressions::visits::Visits;
 use checker_loops::sections::Facts;
 
 // How many walks may stand in one another.
@@ -15,7 +15,7 @@ const MOST: usize = 200;
 
 impl<'a> Analysis<'a> {
     /// Goes over the program until what is known where facts stand is given wherever it has to be.
-    pub(crate) fn run(&mut self, visits: &mut Visits) {
+    pub(crate) fn run(&mut self, visits: &mut Tally) {
         self.make_due(0);
         self.ascend(visits);
         self.reach_all();
@@ -29,7 +29,7 @@ impl<'a> Analysis<'a> {
     }
 
     // Walks over blocks that are due, the lowest first, until none is.
-    fn ascend(&mut self, visits: &mut Visits) {
+    fn ascend(&mut self, visits: &mut Tally) {
         for _ in 0..self.due.len().saturating_mul(MOST) {
             let Some(number) = self.next_due() else {
                 return;
@@ -47,7 +47,7 @@ impl<'a> Analysis<'a> {
     }
 
     // Walks over a block from no call.
-    fn visit_alone(&mut self, number: usize, visits: &mut Visits) {
+    fn visit_alone(&mut self, number: usize, visits: &mut Tally) {
         if let Ok(number) = u32::try_from(number) {
             self.visit(number, DEEP * WALK, visits);
         }
@@ -74,7 +74,7 @@ impl<'a> Analysis<'a> {
     }
 
     // Walks over each block once, and meets the ranges at each place with what comes there. Whether any moved.
-    fn narrow(&mut self, visits: &mut Visits) -> bool {
+    fn narrow(&mut self, visits: &mut Tally) -> bool {
         self.narrows = true;
         for number in 0..self.due.len() {
             self.visit_alone(number, visits);

@@ -1,6 +1,7 @@
 use crate::analysis::Analysis;
+use crate::tally::Tally;
 use analyser_plan::events::{events_of, expression_events};
-use checker_expressions::visits::Visits;
+use checker_expressions::count::Count;
 use checker_state::{Known, entire};
 use checker_ways::cases::begin_arm;
 use typed_tree::calls::{hold_call, holds_call, passed_holds_call, whole_holds_call};
@@ -10,7 +11,7 @@ use typed_tree::tree::{CaseHead, Expr, Stmt, WithHead, WriteParameter, Written};
 impl<'a> Analysis<'a> {
     /// A statement. One that stands too deep is taken as one that never ends.
     #[cycle(statement)]
-    pub(crate) fn statement(&mut self, statement: &Stmt, left: u32, visits: &mut Visits) {
+    pub(crate) fn statement(&mut self, statement: &Stmt, left: u32, visits: &mut Tally) {
         let Some(left) = left.checked_sub(1) else {
             return self.die();
         };
@@ -54,7 +55,7 @@ impl<'a> Analysis<'a> {
 
     /// Statements, one after another.
     #[cycle(statement)]
-    pub(crate) fn statements(&mut self, statements: &[Stmt], left: u32, visits: &mut Visits) {
+    pub(crate) fn statements(&mut self, statements: &[Stmt], left: u32, visits: &mut Tally) {
         for statement in statements {
             self.statement(statement, left, visits);
         }
@@ -62,7 +63,7 @@ impl<'a> Analysis<'a> {
 
     // A case.
     #[cycle(statement)]
-    fn case(&mut self, head: &CaseHead, arms: &[Stmt], left: u32, visits: &mut Visits) {
+    fn case(&mut self, head: &CaseHead, arms: &[Stmt], left: u32, visits: &mut Tally) {
         visits.tick(head.number);
         let known = self.value(&head.index, left, visits);
         let index = self.index_of(head, arms.len(), &known);
@@ -91,7 +92,7 @@ impl<'a> Analysis<'a> {
 
     // The records of a with.
     #[cycle(statement)]
-    fn records(&mut self, head: &WithHead, left: u32, visits: &mut Visits) {
+    fn records(&mut self, head: &WithHead, left: u32, visits: &mut Tally) {
         visits.tick(head.number);
         for record in &head.records {
             for index in &record.indexes {
@@ -105,7 +106,7 @@ impl<'a> Analysis<'a> {
 
     // A statement that holds no others.
     #[cycle(statement)]
-    fn simple(&mut self, statement: &Stmt, left: u32, visits: &mut Visits) {
+    fn simple(&mut self, statement: &Stmt, left: u32, visits: &mut Tally) {
         let alloc = self.alloc();
         let comes_back = !statement_holds_call(statement)
             || self.calls_among(events_of(alloc, statement), left, visits);
@@ -115,7 +116,7 @@ impl<'a> Analysis<'a> {
 
     /// What is known of the value of an expression.
     #[cycle(statement)]
-    pub(crate) fn value(&mut self, expression: &Expr, left: u32, visits: &mut Visits) -> Known {
+    pub(crate) fn value(&mut self, expression: &Expr, left: u32, visits: &mut Tally) -> Known {
         let alloc = self.alloc();
         let comes_back = !holds_call(expression)
             || self.calls_among(expression_events(alloc, expression), left, visits);

@@ -25,7 +25,7 @@ use Rattle.checker_trail.specs.declared.state.State.{State as Kept}
 use Rattle.checker_trail.specs.Trail.{Moves}
 use Rattle.checker_loops.specs.Aliases.{reach_unless_alias, unless_alias, with_aliases_stored}
 use Rattle.checker_expressions.specs.View.{state_of}
-use Rattle.checker_expressions.specs.Visits.{Visits, all_counted, counted}
+use Rattle.checker_expressions.specs.Visits.{all_counted}
 use Rattle.checker_expressions.specs.Walk.{Walking, ◌>>=◌, access_walk, changed_by, fitting, index_pieces, value_walk, whole_walk}
 use Rattle.checker_calls.proofs.Origins.{root_is}
 use Rattle.checker_expressions.proofs.Counted.{counted-both}
@@ -214,7 +214,8 @@ copying-goes copying indexes more _ hold reach held ranges {old = old} {valued =
 -- ---- entries
 
 -- an entry, and then two pieces
-pub both-counted : (number : ℕ) (one two : List ℕ) (before : Visits) {between mid after : Visits} → between ≡ counted number before
-    → mid ≡ all_counted one between → after ≡ all_counted two mid → after ≡ all_counted (number ∷ (one ++ two)) before
-both-counted number one two before entered first rest =
-    rest ∙ ap (all_counted two) (first ∙ ap (all_counted one) entered) ∙ sym (counted-both one two (counted number before))
+pub both-counted : {Counter : Type 0} (counted : ℕ → Counter → Counter) (number : ℕ) (one two : List ℕ) (before : Counter) {between mid after : Counter}
+    → between ≡ counted number before → mid ≡ all_counted counted one between → after ≡ all_counted counted two mid
+    → after ≡ all_counted counted (number ∷ (one ++ two)) before
+both-counted counted number one two before entered first rest =
+    rest ∙ ap (all_counted counted two) (first ∙ ap (all_counted counted one) entered) ∙ sym (counted-both counted one two (counted number before))

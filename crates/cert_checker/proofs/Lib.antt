@@ -29,6 +29,7 @@ pub mod SoundProgram
 pub mod PlainLists
 pub mod PlainExpressions
 pub mod PlainStatements
+pub mod Counted
 pub mod Steps
 pub mod Among
 pub mod StepsWays

@@ -15,7 +15,7 @@ use Rattle.checker_expressions.specs.declared.flow.Flow.{Flow}
 use Rattle.checker_expressions.specs.declared.grounds.Grounds.{Grounds}
 use Rattle.checker_expressions.specs.View as expressions
 use Rattle.checker_expressions.specs.View.{first_of, state_of}
-use Rattle.checker_expressions.specs.Visits.{Visits, all_counted}
+use Rattle.checker_expressions.specs.Visits.{all_counted}
 use Rattle.checker_expressions.proofs.Counted.{counted-both}
 use Rattle.checker_expressions.specs.Walk.{Context, Walked, Walking, ◌>>=◌, changed_by, enter, first_breach, followed, give, tested}
 use Rattle.cert_checker.specs.declared.walk.Walk.{Walk}
@@ -229,9 +229,9 @@ moved {step = step} {old = old} {state = state} moves = record {
 
 -- ---- entries that were counted
 
-pub counted-then : (one two : List ℕ) (before : Visits) {between after : Visits} → between ≡ all_counted one before → after ≡ all_counted two between
-    → after ≡ all_counted (one ++ two) before
-counted-then one two before first rest = rest ∙ ap (all_counted two) first ∙ sym (counted-both one two before)
+pub counted-then : {Counter : Type 0} (counted : ℕ → Counter → Counter) (one two : List ℕ) (before : Counter) {between after : Counter}
+    → between ≡ all_counted counted one before → after ≡ all_counted counted two between → after ≡ all_counted counted (one ++ two) before
+counted-then counted one two before first rest = rest ∙ ap (all_counted counted two) first ∙ sym (counted-both counted one two before)
 
 -- ---- a list of pieces, from one of them on
 
@@ -253,18 +253,19 @@ module _ {X : Type 0} (walk : X → Walking (Unit {0})) (items : List X) where
       subst (λ (left : List X). Goes (all_of (map walk left)) old old tt) (sym (drop-past items i past)) (goes-give tt old)
 
 -- their entries
-module _ {X : Type 0} (total : List X → List ℕ) (entries : X → List ℕ) (of_more : (x : X) (xs : List X) → total (x ∷ xs) ≡ entries x ++ total xs)
-    (items : List X) where
-  pub counted-step : (i : ℕ) (x : X) (before : Visits) {between all : Visits} → i < length items → x ≡ get_or items i x
-      → between ≡ all_counted (entries x) before
-      → all_counted (total (drop i items)) before ≡ all → all_counted (total (drop (i + 1) items)) between ≡ all
+module _ {X Counter : Type 0} (counted : ℕ → Counter → Counter) (total : List X → List ℕ) (entries : X → List ℕ)
+    (of_more : (x : X) (xs : List X) → total (x ∷ xs) ≡ entries x ++ total xs) (items : List X) where
+  pub counted-step : (i : ℕ) (x : X) (before : Counter) {between all : Counter} → i < length items → x ≡ get_or items i x
+      → between ≡ all_counted counted (entries x) before
+      → all_counted counted (total (drop i items)) before ≡ all → all_counted counted (total (drop (i + 1) items)) between ≡ all
   counted-step i x before {between = between} inside is one whole =
-      ap (all_counted (total (drop (i + 1) items))) one
-      ∙ sym (counted-both (entries x) (total (drop (i + 1) items)) before)
-      ∙ ap (λ numbers. all_counted numbers before) (sym (of_more x (drop (i + 1) items)))
-      ∙ ap (λ (left : List X). all_counted (total left) before) (sym (item-cut items i x inside is)) ∙ whole
+      ap (all_counted counted (total (drop (i + 1) items))) one
+      ∙ sym (counted-both counted (entries x) (total (drop (i + 1) items)) before)
+      ∙ ap (λ numbers. all_counted counted numbers before) (sym (of_more x (drop (i + 1) items)))
+      ∙ ap (λ (left : List X). all_counted counted (total left) before) (sym (item-cut items i x inside is)) ∙ whole
 
-  pub counted-end : (i : ℕ) (before : Visits) {all : Visits} → length items ≤ i → total [] ≡ [] → all_counted (total (drop i items)) before ≡ all → before ≡ all
+  pub counted-end : (i : ℕ) (before : Counter) {all : Counter} → length items ≤ i → total [] ≡ [] → all_counted counted (total (drop i items)) before ≡ all
+      → before ≡ all
   counted-end i before past none whole =
-      ap (λ numbers. all_counted numbers before) (sym none)
-      ∙ ap (λ (left : List X). all_counted (total left) before) (sym (drop-past items i past)) ∙ whole
+      ap (λ numbers. all_counted counted numbers before) (sym none)
+      ∙ ap (λ (left : List X). all_counted counted (total left) before) (sym (drop-past items i past)) ∙ whole

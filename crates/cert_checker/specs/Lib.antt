@@ -5,3 +5,4 @@ pub mod Laws
 pub mod Plain
 pub mod View
 pub mod StoresView
+pub mod Visits

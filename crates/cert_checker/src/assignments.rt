@@ -13,8 +13,8 @@ ghost use Rattle.cert_checker.specs.Walk.{stores_made};
 use crate::reached::reach_stored;
 use crate::stores::{Stores, assign};
 use crate::walk::Walk;
+use checker_expressions::count::Count;
 use checker_expressions::fault::Rule;
-use checker_expressions::visits::Visits;
 use checker_state::{Bound, Known, Reach, bound_form};
 use domain::interval::Interval;
 use place::Place;
@@ -25,9 +25,9 @@ use typed_tree::tree::{Access, Assignment, Base, Copying};
 // What statements store to variables and to components.
 impl<'a> Walk<'a> {
     /// The value has to lie in the range of the target's type.
-    pub(crate) fn assignment(&mut self, assignment: &Assignment, visits: &mut Visits)
+    pub(crate) fn assignment<C: Count>(&mut self, assignment: &Assignment, visits: &mut C)
         ensures goes { Goes (from_entry assignment.now.number (assignment_walk assignment.now)) self.old self.new tt }
-        ensures counts { visits.new ≡ all_counted (assignment.now.number
+        ensures counts { visits.new ≡ all_counted C.counted (assignment.now.number
             ∷ (access_entries assignment.now.target (index_entries assignment.now.indexes.items)
             ++ entries_of_expression assignment.now.value)) visits.old }
     {
@@ -41,9 +41,9 @@ impl<'a> Walk<'a> {
     }
 
     /// An assignment of a whole value.
-    pub(crate) fn copying(&mut self, copying: &Copying, visits: &mut Visits)
+    pub(crate) fn copying<C: Count>(&mut self, copying: &Copying, visits: &mut C)
         ensures goes { Goes (from_entry copying.now.number (copying_walk copying.now)) self.old self.new tt }
-        ensures counts { visits.new ≡ all_counted (copying.now.number
+        ensures counts { visits.new ≡ all_counted C.counted (copying.now.number
             ∷ (access_entries copying.now.target (index_entries copying.now.indexes.items)
             ++ whole_entries copying.now.value (index_entries copying.now.value_indexes.items))) visits.old }
     {

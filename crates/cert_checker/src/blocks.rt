@@ -11,9 +11,9 @@ ghost use Rattle.cert_checker.specs.View.{Begins, Goes, Passes, block_walk_here,
 ghost use Rattle.cert_checker.specs.Walk.{block_walk, blocks_walk, result_use};
 
 use crate::walk::Walk;
+use checker_expressions::count::Count;
 use checker_expressions::fault::Rule;
 use checker_expressions::flow::Flow;
-use checker_expressions::visits::Visits;
 use checker_loops::claims::gives_facts;
 use checker_loops::sections::block_claims_at;
 use checker_loops::starts::begin_block;
@@ -26,16 +26,16 @@ use typed_tree::tree::{Block, FunctionResult, Tree};
 // Blocks, one after another.
 impl<'a> Walk<'a> {
     /// The blocks of a program, of which there are so many, by the variables that each declares.
-    pub(crate) fn blocks(
+    pub(crate) fn blocks<C: Count>(
         &mut self,
         tree: &Tree,
         count: u32,
         declared: &[Vec<u32>],
-        visits: &mut Visits,
+        visits: &mut C,
     )
         requires { count ≡ length tree.now.blocks.items }
         ensures goes { Passes (blocks_walk 0 tree.now.blocks.items) declared.now self.old self.new }
-        ensures counts { visits.new ≡ all_counted (entries_of tree.now) visits.old }
+        ensures counts { visits.new ≡ all_counted C.counted (entries_of tree.now) visits.old }
     {
         for number in 0..count {
             let block = &tree.blocks[number as usize];
@@ -44,9 +44,9 @@ impl<'a> Walk<'a> {
     }
 
     /// A block of a number. The walk is in no block before it and behind it.
-    fn block(&mut self, number: u32, block: &Block, declared: &[Vec<u32>], visits: &mut Visits)
+    fn block<C: Count>(&mut self, number: u32, block: &Block, declared: &[Vec<u32>], visits: &mut C)
         ensures goes { Passes (block_walk number block.now) declared.now self.old self.new }
-        ensures counts { visits.new ≡ all_counted (entries_of_block block.now) visits.old }
+        ensures counts { visits.new ≡ all_counted C.counted (entries_of_block block.now) visits.old }
     {
         let before = mem::replace(&mut self.flow.grounds.block, number);
         let mark = self.flow.state.mark();
@@ -56,15 +56,15 @@ impl<'a> Walk<'a> {
     }
 
     /// A block from its start to its end, where its exit facts have to be given.
-    fn block_inside(
+    fn block_inside<C: Count>(
         &mut self,
         number: u32,
         block: &Block,
         declared: &[Vec<u32>],
-        visits: &mut Visits,
+        visits: &mut C,
     )
         ensures goes { Begins (block_walk_here number block.now) declared.now self.old self.new }
-        ensures counts { visits.new ≡ all_counted (entries_of_block block.now) visits.old }
+        ensures counts { visits.new ≡ all_counted C.counted (entries_of_block block.now) visits.old }
     {
         begin(&mut self.flow, number, declared);
         self.statement(&block.body, visits);

@@ -18,6 +18,7 @@ pub mod program;
 mod reached;
 mod reads;
 mod stores;
+mod visits;
 pub mod walk;
 
 use certificate::Certificate;

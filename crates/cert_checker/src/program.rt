@@ -5,12 +5,12 @@ ghost use Rattle.cert_checker.specs.View.{AreGrounds, IsBegun, IsFaultOf, IsUnbr
 ghost use Rattle.cert_checker.specs.Walk.{program_walk};
 
 use crate::blocks::block_count;
+use crate::visits::Visits;
 use crate::walk::Walk;
 use certificate::Certificate;
 use checker_expressions::fault::{Breach, CheckFault};
 use checker_expressions::flow::Flow;
 use checker_expressions::grounds::Grounds;
-use checker_expressions::visits::Visits;
 use checker_loops::loops::{Claims, all_claims, all_loop_aliases};
 use checker_loops::pairs::Pairs;
 use checker_loops::sections::{all_block_claims, all_pairs};

@@ -7,7 +7,7 @@ ghost use Rattle.cert_checker.specs.Walk.{all_of, from_entry, point_place, read_
 
 use crate::reached::reach_stored;
 use crate::walk::Walk;
-use checker_expressions::visits::Visits;
+use checker_expressions::count::Count;
 use checker_rows::limits;
 use checker_state::Reach;
 use place::Place;
@@ -16,10 +16,10 @@ use typed_tree::tree::{ReadVariable, Reading, Tree};
 // What is read (ISO 7185:1990, 6.9.1, 6.9.2).
 impl<'a> Walk<'a> {
     /// A read or readln. That a readln passes a line end changes nothing that is known.
-    pub(crate) fn read(&mut self, reading: &Reading, visits: &mut Visits)
+    pub(crate) fn read<C: Count>(&mut self, reading: &Reading, visits: &mut C)
         ensures goes { Goes (from_entry reading.now.number
             (all_of (map (read_walk reading.now.name) reading.now.variables.items))) self.old self.new tt }
-        ensures counts { visits.new ≡ all_counted (reading.now.number
+        ensures counts { visits.new ≡ all_counted C.counted (reading.now.number
             ∷ flat_map entries_of_read reading.now.variables.items) visits.old }
     {
         visits.tick(reading.number);
@@ -29,9 +29,9 @@ impl<'a> Walk<'a> {
     }
 
     /// A variable that is read by a procedure whose name stands at a place.
-    fn read_variable(&mut self, name: Place, one: &ReadVariable, visits: &mut Visits)
+    fn read_variable<C: Count>(&mut self, name: Place, one: &ReadVariable, visits: &mut C)
         ensures goes { Goes (read_walk name one.now) self.old self.new tt }
-        ensures counts { visits.new ≡ all_counted (entries_of_read one.now) visits.old }
+        ensures counts { visits.new ≡ all_counted C.counted (entries_of_read one.now) visits.old }
     {
         let reach = self.access(&one.access, &one.indexes, visits);
         self.read_value(name, one, reach);

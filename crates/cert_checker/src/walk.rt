@@ -15,8 +15,8 @@ ghost use Rattle.cert_checker.specs.Walk.{all_of, bounds_walk, choice_walk, for_
 ghost use Rattle.cert_checker.specs.Walk.{index_walk, record_walk, with_walk};
 ghost use Rattle.cert_checker.specs.Walk.{repeat_walk, rounds_of, statement_walk, where_so, while_walk};
 
+use checker_expressions::count::Count;
 use checker_expressions::flow::Flow;
-use checker_expressions::visits::Visits;
 use checker_loops::loops::Claims;
 use checker_state::{Known, Reach, entire};
 use checker_ways::cases::{begin_arm, constants_before, covers};
@@ -43,9 +43,9 @@ pub struct Walk<'a> {
 impl<'a> Walk<'a> {
     /// A statement (ISO 7185:1990, 6.8).
     #[cycle(statement)]
-    pub fn statement(&mut self, statement: &Stmt, visits: &mut Visits)
+    pub fn statement<C: Count>(&mut self, statement: &Stmt, visits: &mut C)
         ensures goes { Goes (statement_walk statement.now) self.old self.new tt }
-        ensures counts { visits.new ≡ all_counted (entries_of_statement statement.now) visits.old }
+        ensures counts { visits.new ≡ all_counted C.counted (entries_of_statement statement.now) visits.old }
     {
         match statement {
             Stmt::Empty { number } => visits.tick(*number),
@@ -84,9 +84,9 @@ impl<'a> Walk<'a> {
 
     /// Statements, one after another.
     #[cycle(statement)]
-    fn statements(&mut self, statements: &[Stmt], visits: &mut Visits)
+    fn statements<C: Count>(&mut self, statements: &[Stmt], visits: &mut C)
         ensures goes { Goes (all_of (map statement_walk statements.now)) self.old self.new tt }
-        ensures counts { visits.new ≡ all_counted (statements_entries statements.now) visits.old }
+        ensures counts { visits.new ≡ all_counted C.counted (statements_entries statements.now) visits.old }
     {
         for statement in statements {
             self.statement(statement, visits);
@@ -95,9 +95,9 @@ impl<'a> Walk<'a> {
 
     /// The statement behind `else`, if there is one.
     #[cycle(statement)]
-    fn alternative(&mut self, alternative: &Option<Box<Stmt>>, visits: &mut Visits)
+    fn alternative<C: Count>(&mut self, alternative: &Option<Box<Stmt>>, visits: &mut C)
         ensures goes { Goes (else_walk alternative.now) self.old self.new tt }
-        ensures counts { visits.new ≡ all_counted (else_entries alternative.now) visits.old }
+        ensures counts { visits.new ≡ all_counted C.counted (else_entries alternative.now) visits.old }
     {
         match alternative {
             None => {}
@@ -107,10 +107,10 @@ impl<'a> Walk<'a> {
 
     /// A while.
     #[cycle(statement)]
-    fn while_loop(&mut self, head: &LoopHead, body: &Stmt, visits: &mut Visits)
+    fn while_loop<C: Count>(&mut self, head: &LoopHead, body: &Stmt, visits: &mut C)
         ensures goes { Goes (from_entry head.now.number (while_walk head.now (statement_walk body.now)))
             self.old self.new tt }
-        ensures counts { visits.new ≡ all_counted (head.now.number
+        ensures counts { visits.new ≡ all_counted C.counted (head.now.number
             ∷ (entries_of_expression head.now.condition ++ entries_of_statement body.now)) visits.old }
     {
         visits.tick(head.number);
@@ -126,10 +126,10 @@ impl<'a> Walk<'a> {
 
     /// A repeat.
     #[cycle(statement)]
-    fn repeat_loop(&mut self, head: &LoopHead, statements: &[Stmt], visits: &mut Visits)
+    fn repeat_loop<C: Count>(&mut self, head: &LoopHead, statements: &[Stmt], visits: &mut C)
         ensures goes { Goes (from_entry head.now.number
             (repeat_walk head.now (all_of (map statement_walk statements.now)))) self.old self.new tt }
-        ensures counts { visits.new ≡ all_counted (head.now.number
+        ensures counts { visits.new ≡ all_counted C.counted (head.now.number
             ∷ (statements_entries statements.now ++ entries_of_expression head.now.condition)) visits.old }
     {
         visits.tick(head.number);
@@ -145,10 +145,11 @@ impl<'a> Walk<'a> {
 
     /// A for.
     #[cycle(statement)]
-    fn for_loop(&mut self, head: &ForHead, body: &Stmt, visits: &mut Visits)
+    fn for_loop<C: Count>(&mut self, head: &ForHead, body: &Stmt, visits: &mut C)
         ensures goes { Goes (from_entry head.now.number (bounds_walk head.now (statement_walk body.now)))
             self.old self.new tt }
-        ensures counts { visits.new ≡ all_counted (head.now.number ∷ (entries_of_expression head.now.first.value
+        ensures counts { visits.new ≡ all_counted C.counted (head.now.number
+            ∷ (entries_of_expression head.now.first.value
             ++ (entries_of_expression head.now.last.value ++ entries_of_statement body.now))) visits.old }
     {
         visits.tick(head.number);
@@ -160,9 +161,9 @@ impl<'a> Walk<'a> {
 
     /// A for, from the values of its bounds: where there are any, and where there are none.
     #[cycle(statement)]
-    fn for_statement(&mut self, head: &ForHead, body: &Stmt, way: &Way, visits: &mut Visits)
+    fn for_statement<C: Count>(&mut self, head: &ForHead, body: &Stmt, way: &Way, visits: &mut C)
         ensures goes { Goes (for_walk head.now (statement_walk body.now) (said_way way.now)) self.old self.new tt }
-        ensures counts { visits.new ≡ all_counted (entries_of_statement body.now) visits.old }
+        ensures counts { visits.new ≡ all_counted C.counted (entries_of_statement body.now) visits.old }
     {
         let mark = self.flow.state.mark();
         way.relate(&mut self.flow.state, true);
@@ -175,9 +176,9 @@ impl<'a> Walk<'a> {
 
     /// A for where there are values.
     #[cycle(statement)]
-    fn for_turns(&mut self, head: &ForHead, body: &Stmt, way: &Way, visits: &mut Visits)
+    fn for_turns<C: Count>(&mut self, head: &ForHead, body: &Stmt, way: &Way, visits: &mut C)
         ensures goes { Goes (for_turns head.now (statement_walk body.now) (said_way way.now)) self.old self.new tt }
-        ensures counts { visits.new ≡ all_counted (entries_of_statement body.now) visits.old }
+        ensures counts { visits.new ≡ all_counted C.counted (entries_of_statement body.now) visits.old }
     {
         let tested = self.tested_way(way);
         self.begin_way(&tested);
@@ -186,9 +187,9 @@ impl<'a> Walk<'a> {
 
     /// The turns of a for.
     #[cycle(statement)]
-    fn turns(&mut self, head: &ForHead, body: &Stmt, way: &Way, visits: &mut Visits)
+    fn turns<C: Count>(&mut self, head: &ForHead, body: &Stmt, way: &Way, visits: &mut C)
         ensures goes { Goes (rounds_of head.now (statement_walk body.now) (said_way way.now)) self.old self.new tt }
-        ensures counts { visits.new ≡ all_counted (entries_of_statement body.now) visits.old }
+        ensures counts { visits.new ≡ all_counted C.counted (entries_of_statement body.now) visits.old }
     {
         let steady = self.steady_in(head.loop_number, way);
         self.enter_loop(head.loop_number, head.place, Some(way.control));
@@ -203,10 +204,10 @@ impl<'a> Walk<'a> {
 
     /// A case.
     #[cycle(statement)]
-    fn case(&mut self, head: &CaseHead, arms: &[Stmt], visits: &mut Visits)
+    fn case<C: Count>(&mut self, head: &CaseHead, arms: &[Stmt], visits: &mut C)
         ensures goes { Goes (from_entry head.now.number (index_walk head.now (map statement_walk arms.now)))
             self.old self.new tt }
-        ensures counts { visits.new ≡ all_counted (head.now.number
+        ensures counts { visits.new ≡ all_counted C.counted (head.now.number
             ∷ (entries_of_expression head.now.index ++ statements_entries arms.now)) visits.old }
     {
         visits.tick(head.number);
@@ -218,15 +219,15 @@ impl<'a> Walk<'a> {
 
     /// The arms of a case, each from here. No way behind it is known before the first.
     #[cycle(statement)]
-    fn arms(
+    fn arms<C: Count>(
         &mut self,
         arms: &[Stmt],
         index: Option<u32>,
         constants: &[Vec<i32>],
-        visits: &mut Visits,
+        visits: &mut C,
     )
         ensures goes { Goes (arms_from_here index constants.now (map statement_walk arms.now)) self.old self.new tt }
-        ensures counts { visits.new ≡ all_counted (statements_entries arms.now) visits.old }
+        ensures counts { visits.new ≡ all_counted C.counted (statements_entries arms.now) visits.old }
     {
         let mark = self.flow.state.mark();
         self.flow.state.die();
@@ -242,10 +243,10 @@ impl<'a> Walk<'a> {
 
     /// A with (ISO 7185:1990, 6.8.3.10).
     #[cycle(statement)]
-    fn with_statement(&mut self, head: &WithHead, body: &Stmt, visits: &mut Visits)
+    fn with_statement<C: Count>(&mut self, head: &WithHead, body: &Stmt, visits: &mut C)
         ensures goes { Goes (from_entry head.now.number (with_walk head.now (statement_walk body.now)))
             self.old self.new tt }
-        ensures counts { visits.new ≡ all_counted (head.now.number
+        ensures counts { visits.new ≡ all_counted C.counted (head.now.number
             ∷ (flat_map entries_of_record head.now.records.items ++ entries_of_statement body.now)) visits.old }
     {
         visits.tick(head.number);
@@ -254,9 +255,9 @@ impl<'a> Walk<'a> {
     }
 
     /// The records of a with, each of which is accessed once.
-    fn records(&mut self, records: &[WithRecord], visits: &mut Visits)
+    fn records<C: Count>(&mut self, records: &[WithRecord], visits: &mut C)
         ensures goes { Goes (all_of (map record_walk records.now)) self.old self.new tt }
-        ensures counts { visits.new ≡ all_counted (flat_map entries_of_record records.now) visits.old }
+        ensures counts { visits.new ≡ all_counted C.counted (flat_map entries_of_record records.now) visits.old }
     {
         for one in records {
             self.record_of(one, visits);
@@ -264,28 +265,28 @@ impl<'a> Walk<'a> {
     }
 
     /// A record of a with.
-    pub fn record_of(&mut self, one: &WithRecord, visits: &mut Visits)
+    pub fn record_of<C: Count>(&mut self, one: &WithRecord, visits: &mut C)
         ensures goes { Goes (record_walk one.now) self.old self.new tt }
-        ensures counts { visits.new ≡ all_counted (entries_of_record one.now) visits.old }
+        ensures counts { visits.new ≡ all_counted C.counted (entries_of_record one.now) visits.old }
     {
         let _reach = self.access(&one.access, &one.indexes, visits);
     }
 
     /// A call of a procedure.
-    fn call(&mut self, calling: &ProcedureCall, visits: &mut Visits)
+    fn call<C: Count>(&mut self, calling: &ProcedureCall, visits: &mut C)
         ensures goes { Goes (call_walk calling.now.call (map passed_piece_of calling.now.actuals.items))
             self.old self.new tt }
-        ensures counts { visits.new ≡ all_counted (call_entries calling.now.call
+        ensures counts { visits.new ≡ all_counted C.counted (call_entries calling.now.call
             (map entries_of_passed calling.now.actuals.items)) visits.old }
     {
         self.flow.call(calling.call, &calling.actuals, visits);
     }
 
     /// A write.
-    fn write(&mut self, writing: &Writing, visits: &mut Visits)
+    fn write<C: Count>(&mut self, writing: &Writing, visits: &mut C)
         ensures goes { Goes (from_entry writing.now.number (all_of (map parameter_walk writing.now.parameters.items)))
             self.old self.new tt }
-        ensures counts { visits.new ≡ all_counted (writing.now.number
+        ensures counts { visits.new ≡ all_counted C.counted (writing.now.number
             ∷ flat_map entries_of_parameter writing.now.parameters.items) visits.old }
     {
         visits.tick(writing.number);
@@ -295,31 +296,38 @@ impl<'a> Walk<'a> {
     }
 
     /// What is known of an expression's value.
-    pub fn expression(&mut self, expression: &Expr, visits: &mut Visits) -> Known
+    pub fn expression<C: Count>(&mut self, expression: &Expr, visits: &mut C) -> Known
         ensures goes { Goes (value_walk expression.now) self.old self.new result }
-        ensures counts { visits.new ≡ all_counted (entries_of_expression expression.now) visits.old }
+        ensures counts { visits.new ≡ all_counted C.counted (entries_of_expression expression.now) visits.old }
     {
         self.flow.expression(expression, visits)
     }
 
     /// A variable access.
-    pub(crate) fn access(&mut self, access: &Access, indexes: &[Expr], visits: &mut Visits) -> Reach
+    pub(crate) fn access<C: Count>(
+        &mut self,
+        access: &Access,
+        indexes: &[Expr],
+        visits: &mut C,
+    ) -> Reach
         ensures goes { Goes (access_walk access.now (index_pieces indexes.now)) self.old self.new
             (said_reach result) }
-        ensures counts { visits.new ≡ all_counted (access_entries access.now (index_entries indexes.now)) visits.old }
+        ensures counts { visits.new ≡ all_counted C.counted (access_entries access.now (index_entries indexes.now))
+            visits.old }
     {
         self.flow.access(access, indexes, visits)
     }
 
     /// A whole value.
-    pub(crate) fn whole_value(
+    pub(crate) fn whole_value<C: Count>(
         &mut self,
         value: &Whole,
         indexes: &[Expr],
-        visits: &mut Visits,
+        visits: &mut C,
     ) -> Vec<Interval>
         ensures goes { Goes (whole_walk value.now (index_pieces indexes.now)) self.old self.new result.items }
-        ensures counts { visits.new ≡ all_counted (whole_entries value.now (index_entries indexes.now)) visits.old }
+        ensures counts { visits.new ≡ all_counted C.counted (whole_entries value.now (index_entries indexes.now))
+            visits.old }
     {
         self.flow.whole_value(value, indexes, visits)
     }

@@ -24,7 +24,7 @@ use Rattle.checker_expressions.specs.View.{Goes, context_of, state_of}
 use Rattle.checker_expressions.specs.Walk.{Gathering, Linked, Walked, Walking, ◌>>=◌, actuals_walk, behind_next, deeper, form_before_by, gathered, give}
 use Rattle.checker_expressions.specs.Walk.{in_turn, index_pieces, index_test, indexes_walk, link_walk, members_walk, next_test, passed_piece_of, piece_of}
 use Rattle.checker_expressions.specs.Walk.{value_walk}
-use Rattle.checker_expressions.specs.Visits.{Visits, all_counted}
+use Rattle.checker_expressions.specs.Visits.{all_counted}
 use Rattle.checker_expressions.proofs.Counted.{counted-both}
 use Rattle.checker_expressions.proofs.Flows.{goes-alike, goes-as, goes-give, goes-then}
 
@@ -34,13 +34,13 @@ pub item-cut : {X : Type 0} (items : List X) (i : ℕ) (x : X) → i < length it
 item-cut items i x inside is = rw add-one (drop-cons items i x inside ∙ ap (λ y. y ∷ drop (suc i) items) (sym is))
 
 -- the entries of the first, and then those of the others
-pub entries-cut : {X : Type 0} (entries : X → List ℕ) (items : List X) (i : ℕ) (x : X) (before : Visits) {after : Visits} → i < length items
-    → x ≡ get_or items i x → after ≡ all_counted (entries x) before
-    → all_counted (joined (map entries (drop (i + 1) items))) after ≡ all_counted (joined (map entries (drop i items))) before
-entries-cut {X = X} entries items i x before inside is counts =
-    ap (all_counted (joined (map entries (drop (i + 1) items)))) counts
-    ∙ sym (counted-both (entries x) (joined (map entries (drop (i + 1) items))) before)
-    ∙ ap (λ (list : List X). all_counted (joined (map entries list)) before) (sym (item-cut items i x inside is))
+pub entries-cut : {X Counter : Type 0} (counted : ℕ → Counter → Counter) (entries : X → List ℕ) (items : List X) (i : ℕ) (x : X) (before : Counter)
+    {after : Counter} → i < length items → x ≡ get_or items i x → after ≡ all_counted counted (entries x) before
+    → all_counted counted (joined (map entries (drop (i + 1) items))) after ≡ all_counted counted (joined (map entries (drop i items))) before
+entries-cut {X = X} counted entries items i x before inside is counts =
+    ap (all_counted counted (joined (map entries (drop (i + 1) items)))) counts
+    ∙ sym (counted-both counted (entries x) (joined (map entries (drop (i + 1) items))) before)
+    ∙ ap (λ (list : List X). all_counted counted (joined (map entries list)) before) (sym (item-cut items i x inside is))
 
 -- ---- operators
 

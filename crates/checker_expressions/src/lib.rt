@@ -3,6 +3,7 @@
 #![tactic(auto)]
 
 mod calls;
+pub mod count;
 pub mod fault;
 pub mod flow;
 mod gathering;
@@ -11,5 +12,4 @@ mod operations;
 mod results;
 mod uses;
 mod values;
-pub mod visits;
 mod walk;

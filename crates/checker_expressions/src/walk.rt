@@ -19,9 +19,9 @@ ghost use Rattle.checker_expressions.specs.Walk.{passed_piece_of, piece_of, reac
 ghost use Rattle.checker_expressions.specs.Walk.{value_walk, variable_walk, whole_walk, width_walk, written_walk};
 ghost use Rattle.checker_rows.specs.Rows.{is_ordinal_variable};
 
+use crate::count::Count;
 use crate::flow::Flow;
 use crate::gathering::Gathering;
-use crate::visits::Visits;
 use checker_calls::actuals::Actual;
 use checker_rows::Rows;
 use checker_state::{Bound, Index, Indexes, Known, Reach, bound_form};
@@ -36,9 +36,9 @@ use typed_tree::tree::{
 impl<'a> Flow<'a> {
     /// What is known of an expression's value (ISO 7185:1990, 6.7).
     #[cycle(expression)]
-    pub fn expression(&mut self, expression: &Expr, visits: &mut Visits) -> Known
+    pub fn expression<C: Count>(&mut self, expression: &Expr, visits: &mut C) -> Known
         ensures goes { Goes (value_walk expression.now) self.old self.new result }
-        ensures counts { visits.new ≡ all_counted (entries_of_expression expression.now) visits.old }
+        ensures counts { visits.new ≡ all_counted C.counted (entries_of_expression expression.now) visits.old }
     {
         match expression {
             Expr::Constant { number, value } => {
@@ -93,9 +93,9 @@ impl<'a> Flow<'a> {
 
     /// Operators with their right operands, from left to right, behind what is known of the first one.
     #[cycle(expression)]
-    fn in_turn(&mut self, links: &[Link], left: Known, visits: &mut Visits) -> Known
+    fn in_turn<C: Count>(&mut self, links: &[Link], left: Known, visits: &mut C) -> Known
         ensures goes { Goes (in_turn (map link_walk links.now) left) self.old self.new result }
-        ensures counts { visits.new ≡ all_counted (joined (map entries_of_link links.now)) visits.old }
+        ensures counts { visits.new ≡ all_counted C.counted (joined (map entries_of_link links.now)) visits.old }
     {
         let mut known = left;
         for link in links {
@@ -106,9 +106,9 @@ impl<'a> Flow<'a> {
 
     /// An operator and its right operand, by what is known to its left.
     #[cycle(expression)]
-    fn link(&mut self, link: &Link, left: Known, visits: &mut Visits) -> Known
+    fn link<C: Count>(&mut self, link: &Link, left: Known, visits: &mut C) -> Known
         ensures goes { Goes (link_walk link.now left) self.old self.new result }
-        ensures counts { visits.new ≡ all_counted (entries_of_link link.now) visits.old }
+        ensures counts { visits.new ≡ all_counted C.counted (entries_of_link link.now) visits.old }
     {
         visits.tick(link.number);
         let right = self.expression(&link.operand, visits);
@@ -117,17 +117,18 @@ impl<'a> Flow<'a> {
 
     /// The value of a variable or of a component.
     #[cycle(expression)]
-    fn variable(
+    fn variable<C: Count>(
         &mut self,
         holds: Scalar,
         access: &Access,
         indexes: &[Expr],
         defined: u32,
-        visits: &mut Visits,
+        visits: &mut C,
     ) -> Known
         ensures goes { Goes (variable_walk holds access.now (index_pieces indexes.now) defined)
             self.old self.new result }
-        ensures counts { visits.new ≡ all_counted (access_entries access.now (index_entries indexes.now)) visits.old }
+        ensures counts { visits.new ≡ all_counted C.counted (access_entries access.now (index_entries indexes.now))
+            visits.old }
     {
         let reach = self.access(access, indexes, visits);
         self.used(holds, access, &reach, defined)
@@ -135,10 +136,15 @@ impl<'a> Flow<'a> {
 
     /// The member expressions of a set constructor (6.7.1): the hull of the set.
     #[cycle(expression)]
-    fn members(&mut self, designators: &[Designator], members: &[Expr], visits: &mut Visits) -> Hull
+    fn members<C: Count>(
+        &mut self,
+        designators: &[Designator],
+        members: &[Expr],
+        visits: &mut C,
+    ) -> Hull
         ensures goes { Goes (members_walk (index_pieces members.now) (none_gathered designators.now))
             self.old self.new result }
-        ensures counts { visits.new ≡ all_counted (joined (index_entries members.now)) visits.old }
+        ensures counts { visits.new ≡ all_counted C.counted (joined (index_entries members.now)) visits.old }
     {
         let mut gathering = Gathering::of(designators);
         for member in members {
@@ -150,16 +156,16 @@ impl<'a> Flow<'a> {
 
     /// A relation of two whole values behind the left one: the operator is entered between them.
     #[cycle(expression)]
-    fn related(
+    fn related<C: Count>(
         &mut self,
         number: u32,
         right: &Whole,
         indexes: &[Expr],
-        visits: &mut Visits,
+        visits: &mut C,
     ) -> Known
         ensures goes { Goes (related_walk number right.now (index_pieces indexes.now)) self.old self.new result }
         ensures counts { visits.new
-            ≡ all_counted (number ∷ whole_entries right.now (index_entries indexes.now)) visits.old }
+            ≡ all_counted C.counted (number ∷ whole_entries right.now (index_entries indexes.now)) visits.old }
     {
         visits.tick(number);
         self.whole_value(right, indexes, visits);
@@ -169,14 +175,15 @@ impl<'a> Flow<'a> {
     /// A whole value, with its index expressions (6.4.3): the ranges of its components, row by row. A string is only
     /// entered; its characters lie in one range.
     #[cycle(expression)]
-    pub fn whole_value(
+    pub fn whole_value<C: Count>(
         &mut self,
         value: &Whole,
         indexes: &[Expr],
-        visits: &mut Visits,
+        visits: &mut C,
     ) -> Vec<Interval>
         ensures goes { Goes (whole_walk value.now (index_pieces indexes.now)) self.old self.new result.items }
-        ensures counts { visits.new ≡ all_counted (whole_entries value.now (index_entries indexes.now)) visits.old }
+        ensures counts { visits.new ≡ all_counted C.counted (whole_entries value.now (index_entries indexes.now))
+            visits.old }
     {
         match value {
             Whole::Text { number, characters } => {
@@ -197,9 +204,10 @@ impl<'a> Flow<'a> {
 
     /// A variable access with its index expressions (6.5.1): what it reaches of the rows under it.
     #[cycle(expression)]
-    pub fn access(&mut self, access: &Access, indexes: &[Expr], visits: &mut Visits) -> Reach
+    pub fn access<C: Count>(&mut self, access: &Access, indexes: &[Expr], visits: &mut C) -> Reach
         ensures goes { Goes (access_walk access.now (index_pieces indexes.now)) self.old self.new (said_reach result) }
-        ensures counts { visits.new ≡ all_counted (access_entries access.now (index_entries indexes.now)) visits.old }
+        ensures counts { visits.new ≡ all_counted C.counted (access_entries access.now (index_entries indexes.now))
+            visits.old }
     {
         visits.tick(access.number);
         let reach = begun(&access.base);
@@ -208,16 +216,16 @@ impl<'a> Flow<'a> {
 
     /// Index expressions, each of which is tested at once: what is reached by them, from where an access begins on.
     #[cycle(expression)]
-    fn indexes(
+    fn indexes<C: Count>(
         &mut self,
         selectors: &[Selector],
         indexes: &[Expr],
         begun: Reach,
-        visits: &mut Visits,
+        visits: &mut C,
     ) -> Reach
         ensures goes { Goes (indexes_walk selectors.now (index_pieces indexes.now) (said_reach begun))
             self.old self.new (said_reach result) }
-        ensures counts { visits.new ≡ all_counted (joined (index_entries indexes.now)) visits.old }
+        ensures counts { visits.new ≡ all_counted C.counted (joined (index_entries indexes.now)) visits.old }
     {
         let mut left = selectors;
         let mut reach = begun;
@@ -234,9 +242,10 @@ impl<'a> Flow<'a> {
 
     /// The value of a function that is called (6.7.3).
     #[cycle(expression)]
-    fn function(&mut self, call: Call, actuals: &[Passed], visits: &mut Visits) -> Known
+    fn function<C: Count>(&mut self, call: Call, actuals: &[Passed], visits: &mut C) -> Known
         ensures goes { Goes (function_walk call (map passed_piece_of actuals.now)) self.old self.new result }
-        ensures counts { visits.new ≡ all_counted (call_entries call (map entries_of_passed actuals.now)) visits.old }
+        ensures counts { visits.new ≡ all_counted C.counted (call_entries call (map entries_of_passed actuals.now))
+            visits.old }
     {
         self.call(call, actuals, visits);
         self.result(call)
@@ -244,9 +253,10 @@ impl<'a> Flow<'a> {
 
     /// A call of a routine, with its actual parameters (6.7.3, 6.8.2.3).
     #[cycle(expression)]
-    pub fn call(&mut self, call: Call, actuals: &[Passed], visits: &mut Visits)
+    pub fn call<C: Count>(&mut self, call: Call, actuals: &[Passed], visits: &mut C)
         ensures goes { Goes (call_walk call (map passed_piece_of actuals.now)) self.old self.new tt }
-        ensures counts { visits.new ≡ all_counted (call_entries call (map entries_of_passed actuals.now)) visits.old }
+        ensures counts { visits.new ≡ all_counted C.counted (call_entries call (map entries_of_passed actuals.now))
+            visits.old }
     {
         visits.tick(call.number);
         let passed = self.actuals(actuals, visits);
@@ -255,10 +265,14 @@ impl<'a> Flow<'a> {
 
     /// Actual parameters, from left to right.
     #[cycle(expression)]
-    pub fn actuals<'b>(&mut self, actuals: &'b [Passed], visits: &mut Visits) -> Vec<Actual<'b>>
+    pub fn actuals<'b, C: Count>(
+        &mut self,
+        actuals: &'b [Passed],
+        visits: &mut C,
+    ) -> Vec<Actual<'b>>
         ensures goes { Goes (actuals_walk (map passed_piece_of actuals.now))
             self.old self.new (map said_actual result.items) }
-        ensures counts { visits.new ≡ all_counted (joined (map entries_of_passed actuals.now)) visits.old }
+        ensures counts { visits.new ≡ all_counted C.counted (joined (map entries_of_passed actuals.now)) visits.old }
     {
         let mut passed = Vec::new(*self.open_ids.allocator());
         for actual in actuals {
@@ -280,9 +294,9 @@ impl<'a> Flow<'a> {
 
     /// An actual parameter (6.6.3): a value is tested at once.
     #[cycle(expression)]
-    fn actual<'b>(&mut self, actual: &'b Passed, visits: &mut Visits) -> Actual<'b>
+    fn actual<'b, C: Count>(&mut self, actual: &'b Passed, visits: &mut C) -> Actual<'b>
         ensures goes { Goes (passed_piece_of actual.now).walk self.old self.new (said_actual result) }
-        ensures counts { visits.new ≡ all_counted (entries_of_passed actual.now) visits.old }
+        ensures counts { visits.new ≡ all_counted C.counted (entries_of_passed actual.now) visits.old }
     {
         match actual {
             Passed::Value { value, fits } => {
@@ -308,18 +322,18 @@ impl<'a> Flow<'a> {
     }
 
     /// A value that is written, and then its width.
-    pub fn parameter(&mut self, parameter: &WriteParameter, visits: &mut Visits)
+    pub fn parameter<C: Count>(&mut self, parameter: &WriteParameter, visits: &mut C)
         ensures goes { Goes (parameter_walk parameter.now) self.old self.new tt }
-        ensures counts { visits.new ≡ all_counted (entries_of_parameter parameter.now) visits.old }
+        ensures counts { visits.new ≡ all_counted C.counted (entries_of_parameter parameter.now) visits.old }
     {
         self.written(&parameter.value, visits);
         self.width(&parameter.width, visits);
     }
 
     /// A value that is written.
-    fn written(&mut self, value: &Written, visits: &mut Visits)
+    fn written<C: Count>(&mut self, value: &Written, visits: &mut C)
         ensures goes { Goes (written_walk value.now) self.old self.new tt }
-        ensures counts { visits.new ≡ all_counted (entries_of_written value.now) visits.old }
+        ensures counts { visits.new ≡ all_counted C.counted (entries_of_written value.now) visits.old }
     {
         match value {
             Written::Ordinal { value, .. } => {
@@ -332,9 +346,9 @@ impl<'a> Flow<'a> {
     }
 
     /// The width of a value that is written.
-    fn width(&mut self, width: &Option<Width>, visits: &mut Visits)
+    fn width<C: Count>(&mut self, width: &Option<Width>, visits: &mut C)
         ensures goes { Goes (width_walk width.now) self.old self.new tt }
-        ensures counts { visits.new ≡ all_counted (entries_of_width width.now) visits.old }
+        ensures counts { visits.new ≡ all_counted C.counted (entries_of_width width.now) visits.old }
     {
         if let Some(width) = width {
             let known = self.expression(&width.value, visits);

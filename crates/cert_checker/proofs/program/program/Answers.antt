@@ -4,11 +4,12 @@ use Rattle.typed_tree.specs.declared.tree.Tree.{Tree}
 use Rattle.typed_tree.specs.Entries.{entries_of}
 use Rattle.checker_trail.specs.Trail.{Starts}
 use Rattle.checker_loops.specs.View.{all_loop_aliases, said_claims}
-use Rattle.checker_expressions.specs.Visits.{Visits, all_counted, most_counted, none_counted}
+use Rattle.checker_expressions.specs.Visits.{all_counted}
 use Rattle.checker_expressions.specs.Walk.{IsBreachOf}
-use Rattle.checker_expressions.proofs.Counted.{counted-many}
 use Rattle.std.specs.Prelude.{MatchResult}
+use Rattle.cert_checker.specs.Visits.{Visits, counted, most_counted, none_counted}
 use Rattle.cert_checker.specs.Walk.{program_walk}
+use Rattle.cert_checker.proofs.Counted.{counted-many}
 use Rattle.cert_checker.proofs.StepsProgram.{program-given_up, program-noted, program-open, program-unbroken}
 use Rattle.cert_checker.proofs.program.program.Goals as goal
 
@@ -58,14 +59,15 @@ returns-in_err-open_ids-clause-rules c =
 
 pub finish-requires : goal.finish-requires
 finish-requires c =
-    c.blocks-2.ensures.counts ∙ ap (all_counted (entries_of c.tree-tree.result.now)) c.new-visits.ensures
+    c.blocks-2.ensures.counts ∙ ap (all_counted counted (entries_of c.tree-tree.result.now)) c.new-visits.ensures
 
 pub returns-clause-visits : goal.returns-clause-visits
 returns-clause-visits c =
     let entries = entries_of c.tree-tree.result.now in
-    let counted : c.blocks-2.new.visits ≡ all_counted entries none_counted = c.blocks-2.ensures.counts ∙ ap (all_counted entries) c.new-visits.ensures in
+    let all : c.blocks-2.new.visits ≡ all_counted counted entries none_counted =
+    c.blocks-2.ensures.counts ∙ ap (all_counted counted entries) c.new-visits.ensures in
     let told = c.in_ok-visits.ensures.told in
-    let same = told.0 ∙ ap (λ (visits : Visits). visits.entries) counted in
+    let same = told.0 ∙ ap (λ (visits : Visits). visits.entries) all in
     let few = subst (λ (n : ℕ). n < most_counted) same told.1 in
     let from_none : none_counted.entries + length entries ≡ length entries = omega arith in
     same ∙ counted-many entries none_counted few ∙ from_none ∙ ap (λ (t : Tree). length (entries_of t)) c.tree-tree.ensures

@@ -28,33 +28,34 @@ use Rattle.cert_checker.proofs.walk.Walk.+statement.Goals as goal
 -- ---- statements, one after another
 
 pub statements-loop-statement-init : goal.statements-loop-statement-init
-statements-loop-statement-init t c = (λ new goes. goes, refl)
+statements-loop-statement-init g t c = (λ new goes. goes, refl)
 
 pub statements-loop-statement-preserved : goal.statements-loop-statement-preserved
-statements-loop-statement-preserved t c =
+statements-loop-statement-preserved g t c =
     let here = c.loop-statement in (
       λ new goes. here.invariant.0 new
           (all-step statement_walk c.args.statements.now here.statement-index c.statement-item.result c.loop-statement-test.true c.statement-item.is
           c.statement.ensures.goes goes),
-      counted-step statements_entries entries_of_statement (λ x xs. refl) c.args.statements.now here.statement-index c.statement-item.result _
+      counted-step g.C.Count.counted statements_entries entries_of_statement (λ x xs. refl) c.args.statements.now here.statement-index c.statement-item.result _
           c.loop-statement-test.true c.statement-item.is c.statement.ensures.counts here.invariant.1,
     )
 
 pub statements-returns-clause-goes : goal.statements-returns-clause-goes
-statements-returns-clause-goes t c =
+statements-returns-clause-goes g t c =
     let here = c.loop-statement in
     here.invariant.0 here.self (all-end statement_walk c.args.statements.now here.statement-index here.self c.loop-statement-test.false)
 
 pub statements-returns-clause-counts : goal.statements-returns-clause-counts
-statements-returns-clause-counts t c =
+statements-returns-clause-counts g t c =
     let here = c.loop-statement in
-    counted-end statements_entries entries_of_statement (λ x xs. refl) c.args.statements.now here.statement-index _ c.loop-statement-test.false refl
+    counted-end g.C.Count.counted statements_entries entries_of_statement (λ x xs. refl) c.args.statements.now here.statement-index _
+    c.loop-statement-test.false refl
     here.invariant.1
 
 -- ---- one layer of a statement
 
 pub statement-returns-in-If-clause-goes : goal.statement-returns-in-If-clause-goes
-statement-returns-in-If-clause-goes t c =
+statement-returns-in-If-clause-goes g t c =
     let it = c.in-If in
     let condition = it.condition in
     let one = statement_walk c.deref-in-If.result.now in
@@ -76,48 +77,48 @@ statement-returns-in-If-clause-goes t c =
     c.join_behind.ensures.meets))))
 
 pub statement-returns-in-If-clause-counts : goal.statement-returns-in-If-clause-counts
-statement-returns-in-If-clause-counts t c =
+statement-returns-in-If-clause-counts g t c =
     let it = c.in-If in
     let first = entries_of_expression it.condition in
     let one = entries_of_statement c.deref-in-If.result.now in
     let other = else_entries it.alternative in
     let form = λ (s : Stmt). it.number ∷ (first ++ (entries_of_statement s ++ other)) in
-    counted-then (it.number ∷ []) (first ++ (one ++ other)) _ c.tick-in-If.ensures
-    (counted-then first (one ++ other) _ c.expression-known.ensures.counts
-    (counted-then one other _ c.statement.ensures.counts c.alternative.ensures.counts))
-    ∙ ap (λ numbers. all_counted numbers c.args.visits.now)
+    counted-then g.C.Count.counted (it.number ∷ []) (first ++ (one ++ other)) _ c.tick-in-If.ensures
+    (counted-then g.C.Count.counted first (one ++ other) _ c.expression-known.ensures.counts
+    (counted-then g.C.Count.counted one other _ c.statement.ensures.counts c.alternative.ensures.counts))
+    ∙ ap (λ numbers. all_counted g.C.Count.counted numbers c.args.visits.now)
     (sym (ap entries_of_statement it.is ∙ entries-If it.number it.condition it.consequence it.alternative ∙ ap form (sym c.deref-in-If.ensures)))
 
 pub statement-returns-in-While-clause-goes : goal.statement-returns-in-While-clause-goes
-statement-returns-in-While-clause-goes t c =
+statement-returns-in-While-clause-goes g t c =
     let it = c.in-While in
     let form = λ (s : Stmt). from_entry it.head.number (while_walk it.head (statement_walk s)) in
     goes-as (statement_walk c.args.statement.now) (form c.deref-in-While.result.now)
     (ap statement_walk it.is ∙ statement-While it.head it.body ∙ ap form (sym c.deref-in-While.ensures)) c.while_loop.ensures.goes
 
 pub statement-returns-in-Repeat-clause-goes : goal.statement-returns-in-Repeat-clause-goes
-statement-returns-in-Repeat-clause-goes t c =
+statement-returns-in-Repeat-clause-goes g t c =
     let it = c.in-Repeat in
     let form = λ (inner : List Stmt). from_entry it.head.number (repeat_walk it.head (all_of (map statement_walk inner))) in
     goes-as (statement_walk c.args.statement.now) (form c.deref-in-Repeat.result.now)
     (ap statement_walk it.is ∙ statement-Repeat it.head it.statements ∙ ap form (sym c.deref-in-Repeat.ensures.value)) c.repeat_loop.ensures.goes
 
 pub statement-returns-in-For-clause-goes : goal.statement-returns-in-For-clause-goes
-statement-returns-in-For-clause-goes t c =
+statement-returns-in-For-clause-goes g t c =
     let it = c.in-For in
     let form = λ (s : Stmt). from_entry it.head.number (bounds_walk it.head (statement_walk s)) in
     goes-as (statement_walk c.args.statement.now) (form c.deref-in-For.result.now)
     (ap statement_walk it.is ∙ statement-For it.head it.body ∙ ap form (sym c.deref-in-For.ensures)) c.for_loop.ensures.goes
 
 pub statement-returns-in-Case-clause-goes : goal.statement-returns-in-Case-clause-goes
-statement-returns-in-Case-clause-goes t c =
+statement-returns-in-Case-clause-goes g t c =
     let it = c.in-Case in
     let form = λ (arms : List Stmt). from_entry it.head.number (index_walk it.head (map statement_walk arms)) in
     goes-as (statement_walk c.args.statement.now) (form c.deref-in-Case.result.now)
     (ap statement_walk it.is ∙ statement-Case it.head it.arms ∙ ap form (sym c.deref-in-Case.ensures.value)) c.case.ensures.goes
 
 pub statement-returns-in-With-clause-goes : goal.statement-returns-in-With-clause-goes
-statement-returns-in-With-clause-goes t c =
+statement-returns-in-With-clause-goes g t c =
     let it = c.in-With in
     let form = λ (s : Stmt). from_entry it.head.number (with_walk it.head (statement_walk s)) in
     goes-as (statement_walk c.args.statement.now) (form c.deref-in-With.result.now)
@@ -126,7 +127,7 @@ statement-returns-in-With-clause-goes t c =
 -- ---- loops
 
 pub while_loop-returns-clause-goes : goal.while_loop-returns-clause-goes
-while_loop-returns-clause-goes t c =
+while_loop-returns-clause-goes g t c =
     let head = c.args.head.now in
     let condition = head.condition in
     let body = statement_walk c.args.body.now in
@@ -141,14 +142,14 @@ while_loop-returns-clause-goes t c =
     c.leave_loop.ensures c.leave-turn.ensures.long c.leave-turn.ensures.back c.go_where-2.ensures))
 
 pub while_loop-returns-clause-counts : goal.while_loop-returns-clause-counts
-while_loop-returns-clause-counts t c =
+while_loop-returns-clause-counts g t c =
     let first = entries_of_expression c.args.head.now.condition in
     let rest = entries_of_statement c.args.body.now in
-    counted-then (c.args.head.now.number ∷ []) (first ++ rest) _ c.tick.ensures
-    (counted-then first rest _ c.expression-known.ensures.counts c.statement.ensures.counts)
+    counted-then g.C.Count.counted (c.args.head.now.number ∷ []) (first ++ rest) _ c.tick.ensures
+    (counted-then g.C.Count.counted first rest _ c.expression-known.ensures.counts c.statement.ensures.counts)
 
 pub repeat_loop-returns-clause-goes : goal.repeat_loop-returns-clause-goes
-repeat_loop-returns-clause-goes t c =
+repeat_loop-returns-clause-goes g t c =
     let head = c.args.head.now in
     let condition = head.condition in
     let body = all_of (map statement_walk c.args.statements.now) in
@@ -167,16 +168,16 @@ repeat_loop-returns-clause-goes t c =
     c.leave_loop.ensures c.leave-turn.ensures.long c.leave-turn.ensures.back c.go_where-2.ensures))
 
 pub repeat_loop-returns-clause-counts : goal.repeat_loop-returns-clause-counts
-repeat_loop-returns-clause-counts t c =
+repeat_loop-returns-clause-counts g t c =
     let first = statements_entries c.args.statements.now in
     let rest = entries_of_expression c.args.head.now.condition in
-    counted-then (c.args.head.now.number ∷ []) (first ++ rest) _ c.tick.ensures
-    (counted-then first rest _ c.statements.ensures.counts c.expression-known.ensures.counts)
+    counted-then g.C.Count.counted (c.args.head.now.number ∷ []) (first ++ rest) _ c.tick.ensures
+    (counted-then g.C.Count.counted first rest _ c.statements.ensures.counts c.expression-known.ensures.counts)
 
 -- ---- a for
 
 pub for_loop-returns-clause-goes : goal.for_loop-returns-clause-goes
-for_loop-returns-clause-goes t c =
+for_loop-returns-clause-goes g t c =
     let head = c.args.head.now in
     let body = statement_walk c.args.body.now in
     let from = c.expression-from.result in
@@ -191,16 +192,16 @@ for_loop-returns-clause-goes t c =
     (c.of-way.ensures ∙ ap (way from to) c.table.ensures)) c.for_statement.ensures.goes)))
 
 pub for_loop-returns-clause-counts : goal.for_loop-returns-clause-counts
-for_loop-returns-clause-counts t c =
+for_loop-returns-clause-counts g t c =
     let from = entries_of_expression c.args.head.now.first.value in
     let to = entries_of_expression c.args.head.now.last.value in
     let rest = entries_of_statement c.args.body.now in
-    counted-then (c.args.head.now.number ∷ []) (from ++ (to ++ rest)) _ c.tick.ensures
-    (counted-then from (to ++ rest) _ c.expression-from.ensures.counts
-    (counted-then to rest _ c.expression-to.ensures.counts c.for_statement.ensures.counts))
+    counted-then g.C.Count.counted (c.args.head.now.number ∷ []) (from ++ (to ++ rest)) _ c.tick.ensures
+    (counted-then g.C.Count.counted from (to ++ rest) _ c.expression-from.ensures.counts
+    (counted-then g.C.Count.counted to rest _ c.expression-to.ensures.counts c.for_statement.ensures.counts))
 
 pub for_statement-returns-clause-goes : goal.for_statement-returns-clause-goes
-for_statement-returns-clause-goes t c =
+for_statement-returns-clause-goes g t c =
     let head = c.args.head.now in
     let body = statement_walk c.args.body.now in
     let way = said_way c.args.way.now in
@@ -212,7 +213,7 @@ for_statement-returns-clause-goes t c =
     (moved c.undefine.ensures)
 
 pub for_turns-returns-clause-goes : goal.for_turns-returns-clause-goes
-for_turns-returns-clause-goes t c =
+for_turns-returns-clause-goes g t c =
     let head = c.args.head.now in
     let body = statement_walk c.args.body.now in
     let way = said_way c.args.way.now in
@@ -221,7 +222,7 @@ for_turns-returns-clause-goes t c =
     (goes-then (begin_way tested) (λ _. rounds_of head body tested) c.begin_way.ensures c.turns.ensures.goes)
 
 pub turns-returns-clause-goes : goal.turns-returns-clause-goes
-turns-returns-clause-goes t c =
+turns-returns-clause-goes g t c =
     let head = c.args.head.now in
     let body = statement_walk c.args.body.now in
     let way = said_way c.args.way.now in
@@ -235,7 +236,7 @@ turns-returns-clause-goes t c =
 -- ---- a case
 
 pub case-returns-clause-goes : goal.case-returns-clause-goes
-case-returns-clause-goes t c =
+case-returns-clause-goes g t c =
     let head = c.args.head.now in
     let arms = c.args.arms.now in
     goes-from_entry head.number (index_walk head (map statement_walk arms))
@@ -244,21 +245,21 @@ case-returns-clause-goes t c =
     c.table.ensures c.entire-index.ensures c.deref.ensures.value c.range.ensures c.test_index.ensures c.arms.ensures.goes))
 
 pub case-returns-clause-counts : goal.case-returns-clause-counts
-case-returns-clause-counts t c =
+case-returns-clause-counts g t c =
     let first = entries_of_expression c.args.head.now.index in
     let rest = statements_entries c.args.arms.now in
-    counted-then (c.args.head.now.number ∷ []) (first ++ rest) _ c.tick.ensures
-    (counted-then first rest _ c.expression-known.ensures.counts c.arms.ensures.counts)
+    counted-then g.C.Count.counted (c.args.head.now.number ∷ []) (first ++ rest) _ c.tick.ensures
+    (counted-then g.C.Count.counted first rest _ c.expression-known.ensures.counts c.arms.ensures.counts)
 
 pub arms-loop-number-init : goal.arms-loop-number-init
-arms-loop-number-init t c = (
+arms-loop-number-init g t c = (
   λ new goes. arms-begin c.args.index c.args.constants.now c.args.arms.now c.mark-mark.result.length c.args.self.now c.mark-mark.ensures c.die.ensures
       c.leave-behind.ensures.long c.leave-behind.ensures.back goes,
   refl,
 )
 
 pub arms-loop-number-preserved : goal.arms-loop-number-preserved
-arms-loop-number-preserved t c =
+arms-loop-number-preserved g t c =
     let here = c.loop-number in
     let arms = c.args.arms.now in
     let arm = c.index-arms-number.result in (
@@ -266,26 +267,28 @@ arms-loop-number-preserved t c =
           (arms-step c.args.index c.args.constants.now arms c.mark-mark.result.length here.number arm here.self c.loop-number-test.true c.index-arms-number.is
           c.begin_arm.ensures c.statement.ensures.goes c.join_behind.ensures.long c.join_behind.ensures.meets c.leave-behind-in-loop-number.ensures.long
           c.leave-behind-in-loop-number.ensures.back goes),
-      counted-step statements_entries entries_of_statement (λ x xs. refl) arms here.number arm _ c.loop-number-test.true c.index-arms-number.is
+      counted-step g.C.Count.counted statements_entries entries_of_statement (λ x xs. refl) arms here.number arm _ c.loop-number-test.true
+      c.index-arms-number.is
           c.statement.ensures.counts here.invariant.1,
     )
 
 pub arms-returns-clause-goes : goal.arms-returns-clause-goes
-arms-returns-clause-goes t c =
+arms-returns-clause-goes g t c =
     let here = c.loop-number in
     here.invariant.0 _
     (arms-end c.args.index c.args.constants.now c.args.arms.now c.mark-mark.result.length here.number here.self c.loop-number-test.false c.go.ensures.long
     c.go.ensures.comes)
 
 pub arms-returns-clause-counts : goal.arms-returns-clause-counts
-arms-returns-clause-counts t c =
+arms-returns-clause-counts g t c =
     let here = c.loop-number in
-    counted-end statements_entries entries_of_statement (λ x xs. refl) c.args.arms.now here.number _ c.loop-number-test.false refl here.invariant.1
+    counted-end g.C.Count.counted statements_entries entries_of_statement (λ x xs. refl) c.args.arms.now here.number _ c.loop-number-test.false refl
+    here.invariant.1
 
 -- ---- a with
 
 pub with_statement-returns-clause-goes : goal.with_statement-returns-clause-goes
-with_statement-returns-clause-goes t c =
+with_statement-returns-clause-goes g t c =
     let head = c.args.head.now in
     let body = statement_walk c.args.body.now in
     let form = λ (records : List WithRecord). all_of (map record_walk records) >>= λ _. body in
@@ -295,9 +298,11 @@ with_statement-returns-clause-goes t c =
     (goes-then (all_of (map record_walk c.deref.result.now)) (λ _. body) c.records.ensures.goes c.statement.ensures.goes))
 
 pub with_statement-returns-clause-counts : goal.with_statement-returns-clause-counts
-with_statement-returns-clause-counts t c =
+with_statement-returns-clause-counts g t c =
     let number = c.args.head.now.number in
     let rest = entries_of_statement c.args.body.now in
     let first = flat_map entries_of_record c.deref.result.now in
-    counted-then (number ∷ []) (first ++ rest) _ c.tick.ensures (counted-then first rest _ c.records.ensures.counts c.statement.ensures.counts)
-    ∙ ap (λ (records : List WithRecord). all_counted (number ∷ (flat_map entries_of_record records ++ rest)) c.args.visits.now) c.deref.ensures.value
+    counted-then g.C.Count.counted (number ∷ []) (first ++ rest) _ c.tick.ensures
+    (counted-then g.C.Count.counted first rest _ c.records.ensures.counts c.statement.ensures.counts)
+    ∙ ap (λ (records : List WithRecord). all_counted g.C.Count.counted (number ∷ (flat_map entries_of_record records ++ rest)) c.args.visits.now)
+    c.deref.ensures.value

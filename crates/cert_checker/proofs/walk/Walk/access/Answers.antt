@@ -2,4 +2,4 @@ use Rattle.cert_checker.proofs.Steps.{lifted}
 use Rattle.cert_checker.proofs.walk.Walk.access.Goals as goal
 
 pub returns-clause-goes : goal.returns-clause-goes
-returns-clause-goes c = lifted c.access.ensures.goes
+returns-clause-goes g c = lifted c.access.ensures.goes

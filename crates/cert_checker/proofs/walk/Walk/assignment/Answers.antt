@@ -9,7 +9,7 @@ use Rattle.cert_checker.proofs.Steps.{lifted}
 use Rattle.cert_checker.proofs.walk.Walk.assignment.Goals as goal
 
 pub returns-clause-goes : goal.returns-clause-goes
-returns-clause-goes c =
+returns-clause-goes g c =
     let reach = said_reach c.access-reach.result in
     assignment-goes c.args.assignment.now c.deref.result.now c.deref-2.result.now reach (said_reach c.reach_stored-reach.result) c.expression-known.result
     c.fitting-passed.result c.deref.ensures.value c.access-reach.ensures.goes c.expression-known.ensures.goes (lifted c.fitting-passed.ensures)
@@ -17,10 +17,11 @@ returns-clause-goes c =
     (c.reach_stored-reach.ensures ∙ ap (λ (hold : Bool). reach_stored c.deref-2.result.now hold reach) c.holds_call.ensures) c.assign_value.ensures
 
 pub returns-clause-counts : goal.returns-clause-counts
-returns-clause-counts c =
+returns-clause-counts g c =
     let assignment = c.args.assignment.now in
     let entries : List Expr → List ℕ = λ indexes. access_entries assignment.target (index_entries indexes) in
     let value = entries_of_expression assignment.value in
     let before = c.args.visits.now in
-    both-counted assignment.number (entries c.deref.result.now) value before c.tick.ensures c.access-reach.ensures.counts c.expression-known.ensures.counts
-    ∙ ap (λ (indexes : List Expr). all_counted (assignment.number ∷ (entries indexes ++ value)) before) c.deref.ensures.value
+    both-counted g.C.Count.counted assignment.number (entries c.deref.result.now) value before c.tick.ensures c.access-reach.ensures.counts
+    c.expression-known.ensures.counts
+    ∙ ap (λ (indexes : List Expr). all_counted g.C.Count.counted (assignment.number ∷ (entries indexes ++ value)) before) c.deref.ensures.value

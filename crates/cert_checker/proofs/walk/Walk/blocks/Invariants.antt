@@ -9,8 +9,8 @@ use Rattle.cert_checker.proofs.walk.Walk.blocks.Given as goal
 
 -- whatever the checker does over the blocks that are left, it did over them all, and so it is with their entries
 abbrev pub invariant-loop-number : goal.invariant-loop-number
-invariant-loop-number l =
+invariant-loop-number g l =
     ((new : Walk) → Passes (blocks_walk l.number (drop l.number l.tree.blocks.items)) l.declared l.self new
     → Passes (blocks_walk 0 l.tree.blocks.items) l.declared l.fn.self new)
-    × (all_counted (flat_map entries_of_block (drop l.number l.tree.blocks.items)) l.visits
-    ≡ all_counted (flat_map entries_of_block l.tree.blocks.items) l.fn.visits)
+    × (all_counted g.C.Count.counted (flat_map entries_of_block (drop l.number l.tree.blocks.items)) l.visits
+    ≡ all_counted g.C.Count.counted (flat_map entries_of_block l.tree.blocks.items) l.fn.visits)

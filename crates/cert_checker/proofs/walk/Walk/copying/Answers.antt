@@ -12,7 +12,7 @@ use Rattle.cert_checker.proofs.Assigned.{both-counted, copying-goes}
 use Rattle.cert_checker.proofs.walk.Walk.copying.Goals as goal
 
 pub returns-clause-goes : goal.returns-clause-goes
-returns-clause-goes c =
+returns-clause-goes g c =
     let copying = c.args.copying.now in
     let target = copying.target in
     let held = said_reach c.reach_stored-reach.result in
@@ -25,11 +25,12 @@ returns-clause-goes c =
     c.copy_to.new.self tt) c.deref-5.ensures.value c.copy_to.ensures)
 
 pub returns-clause-counts : goal.returns-clause-counts
-returns-clause-counts c =
+returns-clause-counts g c =
     let copying = c.args.copying.now in
     let target : List Expr → List ℕ = λ indexes. access_entries copying.target (index_entries indexes) in
     let value : List Expr → List ℕ = λ indexes. whole_entries copying.value (index_entries indexes) in
     let before = c.args.visits.now in
-    both-counted copying.number (target c.deref.result.now) (value c.deref-2.result.now) before c.tick.ensures c.access-reach.ensures.counts
+    both-counted g.C.Count.counted copying.number (target c.deref.result.now) (value c.deref-2.result.now) before c.tick.ensures c.access-reach.ensures.counts
     c.whole_value-ranges.ensures.counts
-    ∙ ap₂ (λ (one other : List Expr). all_counted (copying.number ∷ (target one ++ value other)) before) c.deref.ensures.value c.deref-2.ensures.value
+    ∙ ap₂ (λ (one other : List Expr). all_counted g.C.Count.counted (copying.number ∷ (target one ++ value other)) before) c.deref.ensures.value
+    c.deref-2.ensures.value

@@ -10,7 +10,7 @@ use Rattle.cert_checker.proofs.Steps.{goes-here, goes-then}
 use Rattle.cert_checker.proofs.walk.Walk.read_variable.Goals as goal
 
 pub returns-clause-goes : goal.returns-clause-goes
-returns-clause-goes c =
+returns-clause-goes g c =
     let name = c.args.name in
     let one = c.args.one.now in
     let form : List Expr → Walking (Unit {0}) = λ indexes. access_walk one.access (index_pieces indexes) >>= read_value name one in
@@ -19,6 +19,7 @@ returns-clause-goes c =
     (goes-then (access_walk one.access (index_pieces c.deref.result.now)) (read_value name one) c.access-reach.ensures.goes c.read_value.ensures)
 
 pub returns-clause-counts : goal.returns-clause-counts
-returns-clause-counts c =
+returns-clause-counts g c =
     c.access-reach.ensures.counts
-    ∙ ap (λ (indexes : List Expr). all_counted (access_entries c.args.one.now.access (index_entries indexes)) c.args.visits.now) c.deref.ensures.value
+    ∙ ap (λ (indexes : List Expr). all_counted g.C.Count.counted (access_entries c.args.one.now.access (index_entries indexes)) c.args.visits.now)
+    c.deref.ensures.value

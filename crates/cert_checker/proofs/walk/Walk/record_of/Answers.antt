@@ -10,7 +10,7 @@ use Rattle.cert_checker.proofs.Steps.{goes-give, goes-here, goes-then}
 use Rattle.cert_checker.proofs.walk.Walk.record_of.Goals as goal
 
 pub returns-clause-goes : goal.returns-clause-goes
-returns-clause-goes c =
+returns-clause-goes g c =
     let one = c.args.one.now in
     let form : List Expr → Walking (Unit {0}) = λ indexes. access_walk one.access (index_pieces indexes) >>= λ _. give tt in
     goes-here (form c.deref.result.now) (record_walk one)
@@ -18,6 +18,7 @@ returns-clause-goes c =
     (goes-then (access_walk one.access (index_pieces c.deref.result.now)) (λ _. give tt) c.access-reach.ensures.goes (goes-give tt c.access-reach.new.self))
 
 pub returns-clause-counts : goal.returns-clause-counts
-returns-clause-counts c =
+returns-clause-counts g c =
     c.access-reach.ensures.counts
-    ∙ ap (λ (indexes : List Expr). all_counted (access_entries c.args.one.now.access (index_entries indexes)) c.args.visits.now) c.deref.ensures.value
+    ∙ ap (λ (indexes : List Expr). all_counted g.C.Count.counted (access_entries c.args.one.now.access (index_entries indexes)) c.args.visits.now)
+    c.deref.ensures.value

@@ -9,8 +9,8 @@ use Rattle.cert_checker.proofs.walk.Walk.records.Given as goal
 
 -- whatever the checker does over the records that are left, it did over them all, and so it is with their entries
 abbrev pub invariant-loop-one : goal.invariant-loop-one
-invariant-loop-one l =
+invariant-loop-one g l =
     ((new : Walk) → Goes (all_of (map record_walk (drop l.one-index l.records))) l.self new tt
     → Goes (all_of (map record_walk l.records)) l.fn.self new tt)
-    × (all_counted (flat_map entries_of_record (drop l.one-index l.records)) l.visits
-    ≡ all_counted (flat_map entries_of_record l.records) l.fn.visits)
+    × (all_counted g.C.Count.counted (flat_map entries_of_record (drop l.one-index l.records)) l.visits
+    ≡ all_counted g.C.Count.counted (flat_map entries_of_record l.records) l.fn.visits)

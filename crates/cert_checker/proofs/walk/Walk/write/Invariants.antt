@@ -1,7 +1,7 @@
 use Rattle.std.proofs.Common.{◌≡◌, drop, map}
 use Rattle.std.specs.Prelude.{flat_map}
 use Rattle.typed_tree.specs.Entries.{entries_of_parameter}
-use Rattle.checker_expressions.specs.Visits.{all_counted, counted}
+use Rattle.checker_expressions.specs.Visits.{all_counted}
 use Rattle.checker_expressions.specs.Walk.{parameter_walk}
 use Rattle.cert_checker.specs.declared.walk.Walk.{Walk}
 use Rattle.cert_checker.specs.Walk.{all_of}
@@ -10,8 +10,8 @@ use Rattle.cert_checker.proofs.walk.Walk.write.Given as goal
 
 -- whatever the checker does over the values that are left, it did over them all, and so it is with their entries
 abbrev pub invariant-loop-parameter : goal.invariant-loop-parameter
-invariant-loop-parameter l =
+invariant-loop-parameter g l =
     ((new : Walk) → Goes (all_of (map parameter_walk (drop l.parameter-index l.parameter-items))) l.self new tt
     → Goes (all_of (map parameter_walk l.parameter-items)) l.fn.self new tt)
-    × (all_counted (flat_map entries_of_parameter (drop l.parameter-index l.parameter-items)) l.visits
-    ≡ all_counted (flat_map entries_of_parameter l.parameter-items) (counted l.writing.number l.fn.visits))
+    × (all_counted g.C.Count.counted (flat_map entries_of_parameter (drop l.parameter-index l.parameter-items)) l.visits
+    ≡ all_counted g.C.Count.counted (flat_map entries_of_parameter l.parameter-items) (g.C.Count.counted l.writing.number l.fn.visits))

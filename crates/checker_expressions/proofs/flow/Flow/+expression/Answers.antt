@@ -1,7 +1,7 @@
-use Rattle.std.proofs.Common.{◌≡◌, ◌∙◌, ap, ap₂, sym, refl, Bool, ℕ, ◌+◌, List, [], ◌∷◌, ◌++◌, Option, drop, map}
+use Rattle.std.proofs.Common.{rules, ◌≡◌, ◌∙◌, ap, ap₂, sym, refl, Bool, ℕ, ◌+◌, List, [], ◌∷◌, ◌++◌, Option, drop, map}
 use Rattle.std.proofs.lemmas.List.{take_rest}
 use Rattle.domain.specs.Interval.{truth_values}
-use Rattle.typed_tree.specs.declared.tree.Expr.{Expr}
+use Rattle.typed_tree.specs.declared.tree.Expr.{Expr, the_lemmas}
 use Rattle.typed_tree.specs.declared.tree.Link.{Link}
 use Rattle.typed_tree.specs.declared.tree.Passed.{Passed}
 use Rattle.typed_tree.specs.declared.tree.RangeTest.{RangeTest}
@@ -40,15 +40,25 @@ use Rattle.checker_expressions.proofs.flow.Flow.+expression.Goals as goal
 
 -- ---- an expression
 
+-- the sizes of what a form holds are less than its own
+pub expression-variable-requires : goal.expression-variable-requires
+expression-variable-requires g t c κs within = (search (rules, the_lemmas), within)
+
+pub expression-whole_value-requires : goal.expression-whole_value-requires
+expression-whole_value-requires g t c κs within = (search (rules, the_lemmas), within)
+
+pub expression-related-requires : goal.expression-related-requires
+expression-related-requires g t c κs within = (search (rules, the_lemmas), within)
+
 pub expression-returns-in-Variable-clause-goes : goal.expression-returns-in-Variable-clause-goes
-expression-returns-in-Variable-clause-goes t c =
+expression-returns-in-Variable-clause-goes g t c =
     let it = c.in-Variable in
     goes-as
     (sym (ap value_walk it.is ∙ value-Variable it.access it.indexes it.holds it.defined
     ∙ ap (λ (items : List Expr). variable_walk it.holds it.access (index_pieces items) it.defined) (sym c.deref.ensures.value))) c.variable.ensures.goes
 
 pub expression-returns-in-Set-clause-goes : goal.expression-returns-in-Set-clause-goes
-expression-returns-in-Set-clause-goes t c =
+expression-returns-in-Set-clause-goes g t c =
     let it = c.in-Set in
     let designators = c.deref-in-Set.result.now in
     let members = c.deref-in-Set-2.result.now in
@@ -60,7 +70,7 @@ expression-returns-in-Set-clause-goes t c =
     (goes-behind it.number (inner >>= set) (goes-mapped inner Set c.members.ensures.goes refl))
 
 pub expression-returns-in-Monadic-clause-goes : goal.expression-returns-in-Monadic-clause-goes
-expression-returns-in-Monadic-clause-goes t c =
+expression-returns-in-Monadic-clause-goes g t c =
     let it = c.in-Monadic in
     let inner = c.deref-in-Monadic.result.now in
     goes-as
@@ -70,7 +80,7 @@ expression-returns-in-Monadic-clause-goes t c =
     (goes-then (value_walk inner) (operated it.operation) c.expression-known.ensures.goes c.operated.ensures))
 
 pub expression-returns-in-Chain-clause-goes : goal.expression-returns-in-Chain-clause-goes
-expression-returns-in-Chain-clause-goes t c =
+expression-returns-in-Chain-clause-goes g t c =
     let it = c.in-Chain in
     let inner = c.deref-in-Chain.result.now in
     goes-as
@@ -80,15 +90,16 @@ expression-returns-in-Chain-clause-goes t c =
     (goes-then (value_walk inner) (in_turn (map link_walk c.deref-in-Chain-2.result.now)) c.expression-known-in-Chain.ensures.goes c.in_turn.ensures.goes)
 
 pub expression-returns-in-Chain-clause-counts : goal.expression-returns-in-Chain-clause-counts
-expression-returns-in-Chain-clause-counts t c =
+expression-returns-in-Chain-clause-counts g t c =
     let it = c.in-Chain in
-    counts-then c.args.visits.now (entries_of_expression c.deref-in-Chain.result.now) (joined (map entries_of_link c.deref-in-Chain-2.result.now))
+    counts-then g.C.Count.counted c.args.visits.now (entries_of_expression c.deref-in-Chain.result.now)
+    (joined (map entries_of_link c.deref-in-Chain-2.result.now))
     (ap entries_of_expression it.is ∙ entries-Chain it.first it.rest
     ∙ ap₂ (λ (e : Expr) (links : List Link). entries_of_expression e ++ joined (map entries_of_link links)) (sym c.deref-in-Chain.ensures)
     (sym c.deref-in-Chain-2.ensures.value)) c.expression-known-in-Chain.ensures.counts c.in_turn.ensures.counts
 
 pub expression-returns-in-Compare-clause-goes : goal.expression-returns-in-Compare-clause-goes
-expression-returns-in-Compare-clause-goes t c =
+expression-returns-in-Compare-clause-goes g t c =
     let it = c.in-Compare in
     let left = whole_walk it.left (index_pieces c.deref-in-Compare.result.now) in
     let right = related_walk it.number it.right (index_pieces c.deref-in-Compare-2.result.now) in
@@ -99,23 +110,23 @@ expression-returns-in-Compare-clause-goes t c =
     (goes-then left (λ _. right) c.whole_value.ensures.goes c.related.ensures.goes)
 
 pub expression-returns-in-Compare-clause-counts : goal.expression-returns-in-Compare-clause-counts
-expression-returns-in-Compare-clause-counts t c =
+expression-returns-in-Compare-clause-counts g t c =
     let it = c.in-Compare in
-    counts-then c.args.visits.now (whole_entries it.left (index_entries c.deref-in-Compare.result.now))
+    counts-then g.C.Count.counted c.args.visits.now (whole_entries it.left (index_entries c.deref-in-Compare.result.now))
     (it.number ∷ whole_entries it.right (index_entries c.deref-in-Compare-2.result.now))
     (ap entries_of_expression it.is ∙ entries-Compare it.number it.relation it.left it.left_indexes it.right it.right_indexes
     ∙ ap₂ (λ (one two : List Expr). whole_entries it.left (index_entries one) ++ (it.number ∷ whole_entries it.right (index_entries two)))
     (sym c.deref-in-Compare.ensures.value) (sym c.deref-in-Compare-2.ensures.value)) c.whole_value.ensures.counts c.related.ensures.counts
 
 pub expression-returns-in-Call-clause-goes : goal.expression-returns-in-Call-clause-goes
-expression-returns-in-Call-clause-goes t c =
+expression-returns-in-Call-clause-goes g t c =
     let it = c.in-Call in
     goes-as
     (sym (ap value_walk it.is ∙ value-Call it.call it.actuals
     ∙ ap (λ (items : List Passed). function_walk it.call (map passed_piece_of items)) (sym c.deref-in-Call.ensures.value))) c.function.ensures.goes
 
 pub function-returns-clause-goes : goal.function-returns-clause-goes
-function-returns-clause-goes t c =
+function-returns-clause-goes g t c =
     let call = c.args.call in
     goes-then (call_walk call (map passed_piece_of c.args.actuals.now)) (λ _ context. result_walk call (result_of (called_block context call)) context)
     c.call.ensures.goes c.result.ensures
@@ -123,7 +134,7 @@ function-returns-clause-goes t c =
 -- ---- operators
 
 pub in_turn-loop-link-preserved : goal.in_turn-loop-link-preserved
-in_turn-loop-link-preserved t c =
+in_turn-loop-link-preserved g t c =
     let here = c.loop-link in
     let items = c.args.links.now in
     let link = c.link-item.result in
@@ -132,17 +143,17 @@ in_turn-loop-link-preserved t c =
           here.invariant.goes result new
           (turn-step items here.link-index link here.known c.loop-link-test.true c.link-item.is c.link-known.ensures.goes goes);
       counts =
-          entries-cut entries_of_link items here.link-index link here.visits c.loop-link-test.true c.link-item.is c.link-known.ensures.counts
+          entries-cut g.C.Count.counted entries_of_link items here.link-index link here.visits c.loop-link-test.true c.link-item.is c.link-known.ensures.counts
           ∙ here.invariant.counts;
     }
 
 pub in_turn-returns-clause-goes : goal.in_turn-returns-clause-goes
-in_turn-returns-clause-goes t c =
+in_turn-returns-clause-goes g t c =
     let here = c.loop-link in
     here.invariant.goes here.known here.self (turn-end c.args.links.now here.link-index here.known here.self c.loop-link-test.false)
 
 pub link-returns-clause-goes : goal.link-returns-clause-goes
-link-returns-clause-goes t c =
+link-returns-clause-goes g t c =
     let link = c.args.link.now in
     let left = c.args.left in
     goes-as (sym (ap (λ (walk : Known → Walking Known). walk left) (link-walks link)))
@@ -152,13 +163,13 @@ link-returns-clause-goes t c =
 -- ---- accesses and whole values
 
 pub variable-returns-clause-goes : goal.variable-returns-clause-goes
-variable-returns-clause-goes t c =
+variable-returns-clause-goes g t c =
     let access = c.args.access.now in
     goes-then (access_walk access (index_pieces c.args.indexes.now))
     (λ reach. value_use c.args.holds (origin_of access) access.selectors.items reach c.args.defined) c.access-reach.ensures.goes c.used.ensures
 
 pub members-loop-member-preserved : goal.members-loop-member-preserved
-members-loop-member-preserved t c =
+members-loop-member-preserved g t c =
     let here = c.loop-member in
     let items = c.args.members.now in
     let member = c.member-item.result in
@@ -169,28 +180,28 @@ members-loop-member-preserved t c =
           c.expression-known.ensures.goes
           (goes-as (ap (gathered (said_gathering here.gathering)) c.range.ensures) c.gathered-gathering.ensures) goes);
       counts =
-          entries-cut entries_of_expression items here.member-index member here.visits c.loop-member-test.true c.member-item.is
+          entries-cut g.C.Count.counted entries_of_expression items here.member-index member here.visits c.loop-member-test.true c.member-item.is
           c.expression-known.ensures.counts ∙ here.invariant.counts;
     }
 
 pub members-loop-member-init : goal.members-loop-member-init
-members-loop-member-init t c =
+members-loop-member-init g t c =
     let walk = λ (gathering : Gathering). members_walk (index_pieces c.args.members.now) gathering in
     record { goes = λ result new goes. goes-as (ap walk c.of-gathering.ensures) goes; counts = refl }
 
 pub members-returns-clause-goes : goal.members-returns-clause-goes
-members-returns-clause-goes t c =
+members-returns-clause-goes g t c =
     let here = c.loop-member in
     here.invariant.goes here.gathering.hull here.self
     (member-end c.args.members.now here.member-index (said_gathering here.gathering) here.self c.loop-member-test.false)
 
 pub related-returns-clause-goes : goal.related-returns-clause-goes
-related-returns-clause-goes t c =
+related-returns-clause-goes g t c =
     let whole = whole_walk c.args.right.now (index_pieces c.args.indexes.now) in
     goes-behind c.args.number (whole >>= λ _. ordinal truth_values) (goes-mapped whole (λ _. Ordinal truth_values) c.whole_value.ensures.goes refl)
 
 pub whole_value-returns-in-Text-clause-goes : goal.whole_value-returns-in-Text-clause-goes
-whole_value-returns-in-Text-clause-goes t c =
+whole_value-returns-in-Text-clause-goes g t c =
     let it = c.in-Text in
     goes-as
     (sym (ap (λ (value : Whole). whole_walk value (index_pieces c.args.indexes.now)) it.is
@@ -198,7 +209,7 @@ whole_value-returns-in-Text-clause-goes t c =
     (goes-behind it.number (give (text_range c.deref.result.now ∷ [])) c.text.ensures)
 
 pub whole_value-returns-in-Variable-clause-goes : goal.whole_value-returns-in-Variable-clause-goes
-whole_value-returns-in-Variable-clause-goes t c =
+whole_value-returns-in-Variable-clause-goes g t c =
     let it = c.in-Variable in
     let pieces = index_pieces c.args.indexes.now in
     goes-as (sym (ap (λ (value : Whole). whole_walk value pieces) it.is))
@@ -206,7 +217,7 @@ whole_value-returns-in-Variable-clause-goes t c =
     c.access-reach.ensures.goes c.used_whole.ensures)
 
 pub access-returns-clause-goes : goal.access-returns-clause-goes
-access-returns-clause-goes t c =
+access-returns-clause-goes g t c =
     let access = c.args.access.now in
     let pieces = index_pieces c.args.indexes.now in
     goes-behind access.number (indexes_walk access.selectors.items pieces (reach_at (origin_of access)))
@@ -214,7 +225,7 @@ access-returns-clause-goes t c =
     (c.begun-reach.ensures access.root)) c.indexes.ensures.goes)
 
 pub indexes-loop-i-preserved : goal.indexes-loop-i-preserved
-indexes-loop-i-preserved t c =
+indexes-loop-i-preserved g t c =
     let here = c.loop-i in
     let items = c.args.indexes.now in
     let index = c.index-indexes-i.result in
@@ -234,12 +245,13 @@ indexes-loop-i-preserved t c =
           (goes-as (ap₂ (λ (selectors : List Selector) (reached : Reach). indexes_walk selectors (index_pieces more) reached) c.behind_next-left.ensures
           reach_is) goes));
       counts =
-          entries-cut entries_of_expression items here.i index here.visits c.loop-i-test.true c.index-indexes-i.is c.expression-known.ensures.counts
+          entries-cut g.C.Count.counted entries_of_expression items here.i index here.visits c.loop-i-test.true c.index-indexes-i.is
+          c.expression-known.ensures.counts
           ∙ here.invariant.counts;
     }
 
 pub indexes-returns-clause-goes : goal.indexes-returns-clause-goes
-indexes-returns-clause-goes t c =
+indexes-returns-clause-goes g t c =
     let here = c.loop-i in
     let reach = said_reach here.reach in
     here.invariant.goes reach here.self (index-end here.left.now c.args.indexes.now here.i reach here.self c.loop-i-test.false)
@@ -247,7 +259,7 @@ indexes-returns-clause-goes t c =
 -- ---- calls
 
 pub call-returns-clause-goes : goal.call-returns-clause-goes
-call-returns-clause-goes t c =
+call-returns-clause-goes g t c =
     let call = c.args.call in
     let pieces = map passed_piece_of c.args.actuals.now in
     let held : c.actuals_hold_call.result ≡ actuals_hold_call pieces = c.actuals_hold_call.ensures ∙ sym (actuals-hold c.args.actuals.now) in
@@ -256,7 +268,7 @@ call-returns-clause-goes t c =
     (goes-as (ap (λ (holds : Bool). called call holds (map said_actual c.actuals-passed.result.items)) held) c.called.ensures))
 
 pub actuals-loop-actual-init : goal.actuals-loop-actual-init
-actuals-loop-actual-init t c =
+actuals-loop-actual-init g t c =
     let walk = actuals_walk (map passed_piece_of c.args.actuals.now) in
     record {
       goes = λ result new goes.
@@ -265,7 +277,7 @@ actuals-loop-actual-init t c =
     }
 
 pub actuals-loop-actual-preserved : goal.actuals-loop-actual-preserved
-actuals-loop-actual-preserved t c =
+actuals-loop-actual-preserved g t c =
     let here = c.loop-actual in
     let items = c.args.actuals.now in
     let i = here.actual-index in
@@ -278,18 +290,18 @@ actuals-loop-actual-preserved t c =
           (passed-step items i one before c.loop-actual-test.true c.actual-item.is c.actual-one.ensures.goes
           (passed-pushed rest (before ++ said_actual c.actual-one.result ∷ []) (map said_actual c.pass.new.passed.items) c.pass.ensures goes));
       counts =
-          entries-cut entries_of_passed items i one here.visits c.loop-actual-test.true c.actual-item.is c.actual-one.ensures.counts
+          entries-cut g.C.Count.counted entries_of_passed items i one here.visits c.loop-actual-test.true c.actual-item.is c.actual-one.ensures.counts
           ∙ here.invariant.counts;
     }
 
 pub actuals-returns-clause-goes : goal.actuals-returns-clause-goes
-actuals-returns-clause-goes t c =
+actuals-returns-clause-goes g t c =
     let here = c.loop-actual in
     let passed = map said_actual here.passed.items in
     here.invariant.goes passed here.self (passed-end c.args.actuals.now here.actual-index passed here.self c.loop-actual-test.false)
 
 pub actual-returns-in-Value-clause-goes : goal.actual-returns-in-Value-clause-goes
-actual-returns-in-Value-clause-goes t c =
+actual-returns-in-Value-clause-goes g t c =
     let it = c.in-Value in
     let mid = c.fitting.new.self in
     let form = form_by (ordinal_in mid) (piece_of it.value) in
@@ -305,7 +317,7 @@ actual-returns-in-Value-clause-goes t c =
     (goes-give _ mid)))))
 
 pub actual-returns-in-Whole-clause-goes : goal.actual-returns-in-Whole-clause-goes
-actual-returns-in-Whole-clause-goes t c =
+actual-returns-in-Whole-clause-goes g t c =
     let it = c.in-Whole in
     goes-as
     (sym (ap (λ (actual : Passed). (passed_piece_of actual).walk) it.is ∙ passed-Whole it.type_id it.value it.indexes
@@ -313,7 +325,7 @@ actual-returns-in-Whole-clause-goes t c =
     (goes-mapped (whole_walk it.value (index_pieces c.deref.result.now)) OfRows c.whole_value.ensures.goes refl)
 
 pub actual-returns-in-Reference-clause-goes : goal.actual-returns-in-Reference-clause-goes
-actual-returns-in-Reference-clause-goes t c =
+actual-returns-in-Reference-clause-goes g t c =
     let it = c.in-Reference in
     goes-as
     (sym (ap (λ (actual : Passed). (passed_piece_of actual).walk) it.is ∙ passed-Reference it.type_id it.access it.indexes

@@ -1,8 +1,8 @@
 use Rattle.std.proofs.Common.{ap, arith}
 use Rattle.typed_tree.specs.Entries.{entries_of}
-use Rattle.checker_expressions.specs.Visits.{Visits}
-use Rattle.checker_expressions.proofs.Counted.{all-most}
-use Rattle.checker_expressions.proofs.visits.Visits.finish.Goals as goal
+use Rattle.cert_checker.specs.Visits.{Visits}
+use Rattle.cert_checker.proofs.Counted.{all-most}
+use Rattle.cert_checker.proofs.visits.Visits.finish.Goals as goal
 
 pub returns-then-entries-clause-few : goal.returns-then-entries-clause-few
 returns-then-entries-clause-few c = λ few.
