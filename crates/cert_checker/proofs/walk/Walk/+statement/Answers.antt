@@ -268,7 +268,7 @@ arms-loop-number-preserved g t c =
           c.begin_arm.ensures c.statement.ensures.goes c.join_behind.ensures.long c.join_behind.ensures.meets c.leave-behind-in-loop-number.ensures.long
           c.leave-behind-in-loop-number.ensures.back goes),
       counted-step g.C.Count.counted statements_entries entries_of_statement (λ x xs. refl) arms here.number arm _ c.loop-number-test.true
-      c.index-arms-number.is
+          c.index-arms-number.is
           c.statement.ensures.counts here.invariant.1,
     )
 

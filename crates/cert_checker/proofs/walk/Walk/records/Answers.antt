@@ -15,7 +15,7 @@ loop-one-preserved g c =
       λ new goes. here.invariant.0 new
           (all-step record_walk records here.one-index c.one-item.result c.loop-one-test.true c.one-item.is c.record_of.ensures.goes goes),
       counted-step g.C.Count.counted (flat_map entries_of_record) entries_of_record (λ x xs. refl) records here.one-index c.one-item.result _
-      c.loop-one-test.true
+          c.loop-one-test.true
           c.one-item.is c.record_of.ensures.counts here.invariant.1,
     )
 

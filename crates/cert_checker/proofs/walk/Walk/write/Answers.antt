@@ -23,7 +23,7 @@ loop-parameter-preserved g c =
           (all-step parameter_walk parameters here.parameter-index c.parameter-item.result c.loop-parameter-test.true c.parameter-item.is
           (lifted c.parameter.ensures.goes) goes),
       counted-step g.C.Count.counted (flat_map entries_of_parameter) entries_of_parameter (λ x xs. refl) parameters here.parameter-index c.parameter-item.result
-      _
+          _
           c.loop-parameter-test.true c.parameter-item.is c.parameter.ensures.counts here.invariant.1,
     )
 
