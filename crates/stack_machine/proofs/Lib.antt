@@ -17,3 +17,4 @@ pub mod Growing
 mod Failing
 pub mod Seen
 pub mod Standing
+pub mod Moving
