@@ -1,10 +1,12 @@
 //! A program that measures and compares, by its first word: `bench RUNS` runs a code of 999,999 straight-line
-//! instructions so many times, `visits SOURCE ..` tells of each source what it takes to find its certificate, and
-//! `pairs CODE CELLS BUDGET ..` compares the runs of a code with its prepared steps and without them.
+//! instructions so many times, `visits SOURCE ..` tells of each source what it takes to find its certificate,
+//! `pairs CODE CELLS BUDGET ..` compares the runs of a code with its prepared steps and without them, and
+//! `shares CODE BUDGET` tells how many instructions of a run are taken singly.
 #![tactic(auto)]
 
 mod bench;
 mod pairs;
+mod shares;
 mod visits;
 
 use std::{env, io};
@@ -22,6 +24,7 @@ fn measure(rt: &HostRuntime, word: &str, more: &[String]) -> io::Result<()> {
         "bench" => bench::bench(rt, more),
         "visits" => visits::visits(rt, more),
         "pairs" => pairs::pairs(rt, more),
+        "shares" => shares::shares(rt, more),
         _ => println!(rt; "no such measure"),
     }
 }
