@@ -28,3 +28,5 @@ mod rows;
 mod shown;
 #[cfg(test)]
 mod stage;
+#[cfg(test)]
+mod taking;
