@@ -1,5 +1,5 @@
 """That what the pages say of the crates is so: a name with a file stands in that file, a path is there, a crate of a
-table is one of crates.txt, and numbers of crates and of wrong bodies are counted."""
+table is one of crates.txt, wrong bodies are there, and numbers of crates and of wrong bodies are counted."""
 
 import glob
 import os
@@ -18,8 +18,9 @@ PATH = re.compile(r"`((?:crates/)?[a-z_]+/(?:src|specs|proofs|must-fail)/[\w/+.]
 COUNTED = re.compile(r"\(now (\d+) in (\d+)\b|(\d+) edits in folders `must-fail/`")
 CRATES_IN_ALL = re.compile(r"(\d+) crates in all")
 
-sys.path.insert(0, os.path.join(TOP, "bin"))
+sys.path[:0] = [os.path.join(TOP, "bin"), os.path.join(TOP, "tests")]
 
+from case_files import read_cases
 from programs import rows_of
 
 ROWS = rows_of(TOP)
@@ -80,6 +81,20 @@ class Pages(unittest.TestCase):
     def test_the_table_of_seconds_has_every_crate(self):
         first = next(rows for rows in tables(text_of(os.path.join(TOP, "docs", "GATE.md"))) if rows[0][0] == "crate")
         self.assertEqual(sorted(row[0] for row in first[2:] if row[0] != "all"), sorted(ROWS))
+
+    def test_wrong_bodies_are_there(self):
+        """Each edit of the table of wrong bodies is one of its crate; without a crate it is a case or a file."""
+        cases = {case.name for case in read_cases()[0]}
+        found = 0
+        for head, _, *rows in tables(text_of(os.path.join(TOP, "docs", "CONTRACTS.md"))):
+            for _, crate, names, _ in rows if head[0] == "a body that" else ():
+                for name in re.findall("`([^`]+)`", names):
+                    found += 1
+                    with self.subTest(crate=crate, name=name):
+                        edit = os.path.join(CRATES, crate, "must-fail", f"{name}.edit")
+                        path = edit if crate else os.path.join(TOP, name)
+                        self.assertTrue(os.path.exists(path) or (not crate and name in cases))
+        self.assertGreater(found, 26)
 
     def test_numbers_are_counted(self):
         wanted = (sum(edits()), len(edits()))
