@@ -5,6 +5,8 @@
 #[cfg(test)]
 mod accepting;
 #[cfg(test)]
+mod again;
+#[cfg(test)]
 mod agreeing;
 #[cfg(test)]
 mod allocations;

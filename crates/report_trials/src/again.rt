@@ -1,0 +1,75 @@
+//! Calls that are made once more where memory was refused. With an allocation refused, as by
+//! `rt try --test --fail-alloc N`, the first call says so; the second one has memory, and answers over the same values
+//! as if there had been no call before it.
+
+use report::compile::compile;
+use report::fault::Fault;
+use report::text::lines;
+use scopes::Scopes;
+use std::slice;
+use std::test::Fail;
+use types::{TypeForm, TypeTable};
+
+fn subrange(last: u8) -> TypeForm {
+    TypeForm::Subrange {
+        host: TypeTable::INTEGER,
+        first: 0,
+        last: i32::from(last),
+    }
+}
+
+// There are three required types before the first one.
+#[test]
+fn a_type_is_added_by_a_second_call(rt: HostRuntime) -> Result<(), Fail> {
+    let mut table = TypeTable::required(rt.alloc())?;
+    for last in 0..40u8 {
+        let added = match table.add(subrange(last)) {
+            Err(_) => table.add(subrange(last)),
+            first => first,
+        };
+        let Ok(id) = added else {
+            return Err(Fail::new("a second call is refused"));
+        };
+        assert!(rt; id.index == 3 + usize::from(last));
+        assert!(rt;
+            table
+                .range(id)
+                .is_some_and(|range| range.first == 0 && range.last == i32::from(last))
+        );
+    }
+    Ok(())
+}
+
+#[test]
+fn a_region_is_opened_by_a_second_call(rt: HostRuntime) -> Result<(), Fail> {
+    let alloc = rt.alloc();
+    let name = Vec::from_slice(alloc, b"x")?;
+    let mut scopes = Scopes::new(alloc);
+    for _ in 0..40 {
+        let opened = match scopes.open(alloc, slice::from_ref(&name)) {
+            Err(_) => scopes.open(alloc, slice::from_ref(&name)),
+            first => first,
+        };
+        assert!(rt; opened.is_ok());
+        assert!(rt; matches!(scopes.innermost_says(b"x"), Some(None)));
+    }
+    for _ in 0..40 {
+        assert!(rt; scopes.close(alloc).len() == 1);
+    }
+    assert!(rt; scopes.close(alloc).is_empty());
+    Ok(())
+}
+
+const SOURCE: &[u8] = b"program p; var x: integer; begin x := 2147483647; x := x + 1 end.";
+
+#[test]
+fn a_source_is_compiled_by_a_second_call(rt: HostRuntime) -> Result<(), Fail> {
+    let alloc = rt.alloc();
+    let compiled = match compile(alloc, SOURCE, None) {
+        Err(Fault::Memory) => compile(alloc, SOURCE, None),
+        first => first,
+    }?;
+    let told = lines(alloc, &compiled.verdict)?;
+    assert!(rt; told.as_slice() == b"1:58: possible error: overflow\n".as_slice());
+    Ok(())
+}
