@@ -66,7 +66,7 @@ const SOURCE: &[u8] = b"program p; var x: integer; begin x := 2147483647; x := x
 fn a_source_is_compiled_by_a_second_call(rt: HostRuntime) -> Result<(), Fail> {
     let alloc = rt.alloc();
     let compiled = match compile(alloc, SOURCE, None) {
-        Err(Fault::Memory) => compile(alloc, SOURCE, None),
+        Err(Fault::Memory(_)) => compile(alloc, SOURCE, None),
         first => first,
     }?;
     let told = lines(alloc, &compiled.verdict)?;
