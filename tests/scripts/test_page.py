@@ -96,7 +96,8 @@ class Made(Repository):
         for part in self.PARTS:
             one, other = os.path.join(TOP, part), os.path.join(self.top, part)
             os.makedirs(os.path.dirname(other), exist_ok=True)
-            shutil.copytree(one, other) if os.path.isdir(one) else shutil.copy2(one, other)
+            copy = shutil.copytree if os.path.isdir(one) else shutil.copy2
+            copy(one, other)
 
     def page(self, **how):
         """What is told while it is made."""

@@ -250,12 +250,15 @@ class Sarif(RecordsCase):
             self.assertTrue(faults, (path, value))
 
     def wrong(self, log, path, value):
+        """The log with another value in one place, or without that."""
         log = json.loads(json.dumps(log))
         *before, last = path
         at = log
         for step in before:
             at = at[step]
-        at.pop(last) if value is None else at.__setitem__(last, value)
+        at[last] = value
+        if value is None:
+            del at[last]
         return log
 
     def test_the_schema_is_that_of_the_standard(self):
