@@ -6,8 +6,8 @@ use Rattle.pcode_assembler.proofs.SaidAgain.{spelled}
 use Rattle.pcode_assembler.proofs.Written.{written}
 use Rattle.pcode_assembler.proofs.code.Code.write.Goals as goal
 
-pub returns-in-None-clause-exact : goal.returns-in-None-clause-exact
-returns-in-None-clause-exact c =
+pub returns-clause-exact : goal.returns-clause-exact
+returns-clause-exact c =
     let code = c.args.self.now in
     let fifth = c.append-2.ensures c.in-None.is in
     let fourth = c.instructions.ensures.lines fifth.0 in
@@ -21,9 +21,9 @@ returns-in-None-clause-exact c =
     (third.1 ∙ ap (λ points. c.sites.new.self.text.items ++ lines_text (map point_line points)) c.deref-3.ensures.value)
     (fourth.1 ∙ ap (λ is. c.points.new.self.text.items ++ lines_text (body_lines is 0 is)) c.deref-5.ensures.value) fifth.1
 
-pub returns-in-None-clause-reads : goal.returns-in-None-clause-reads
-returns-in-None-clause-reads c has_text =
+pub returns-clause-reads : goal.returns-clause-reads
+returns-clause-reads c has_text =
     let code = c.args.self.now in
     let fifth = c.append-2.ensures c.in-None.is in
     let numbers = ap have_numbers (sym c.deref-5.ensures.value) ∙ c.instructions.ensures.numbers in
-    subst (λ (text : List ℕ). Says text code) (sym (returns-in-None-clause-exact c)) (spelled code has_text numbers)
+    subst (λ (text : List ℕ). Says text code) (sym (returns-clause-exact c)) (spelled code has_text numbers)
