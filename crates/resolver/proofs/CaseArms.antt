@@ -1,6 +1,6 @@
 -- Cases: how their typing goes on from that of their arms.
 use Rattle.std.proofs.Common.{◌≡◌, ℕ, ℤ, zero, suc, ◌+◌, ◌<◌, ◌≤◌, List, [], ◌∷◌, ◌++◌, length, map, drop, get_or, Some, slice_get}
-use Rattle.std.proofs.Common.{Ok, Err, Vec, inl, inr}
+use Rattle.std.proofs.Common.{Ok, Vec, inl, inr}
 use Rattle.std.proofs.Common.{refl, sym, ap, ap₂, subst, ◌∙◌, append-nil, append_assoc, length-append, arith}
 use Rattle.std.proofs.Math.Seq.{drop-nil}
 use Rattle.std.proofs.lemmas.List.{map-append, length-map, drop_more, at_drop_all}

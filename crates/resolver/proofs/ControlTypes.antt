@@ -11,7 +11,7 @@ use Rattle.types.specs.declared.form.TypeKind.TheVariants as kind_of_type
 use Rattle.typed_tree.specs.declared.tree.Scalar.TheVariants as scalar
 use Rattle.typed_tree.specs.declared.fault.TypeFault.TheVariants.{TooMany}
 use Rattle.typed_tree.specs.WellFormed.{most_entries, most_numbered}
-use Rattle.typing.proofs.Ways.{Goes, Walks}
+use Rattle.typing.proofs.Ways.{Goes}
 use Rattle.typing.specs.Passing.{Passed, after}
 use Rattle.typing.specs.Steps.{begin_loop, enter, may_change, number_loop}
 use Rattle.expression_resolver.specs.Values.{AreTestedAlike, tested_as}

@@ -1,5 +1,6 @@
 mod Arranged
 mod BlockForms
+mod Boxed
 mod Branches
 mod CaseArms
 mod ControlTypes

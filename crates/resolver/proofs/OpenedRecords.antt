@@ -6,7 +6,7 @@ use Rattle.types.specs.declared.form.TypeId.{TypeId}
 use Rattle.typed_tree.specs.declared.tree.Selector.{Selector}
 use Rattle.typed_tree.specs.Accesses.{Origin, index_count, origin_of}
 use Rattle.typed_tree.specs.Look.{Access, Opens, look_record}
-use Rattle.typing.specs.Expressions.{Denoted, selected, variable_of}
+use Rattle.typing.specs.Expressions.{Denoted, selected}
 use Rattle.typing.specs.Passing.{Passed, Passing, after, behind_marks, each, mark, ◌>>=◌, ◌>>◌}
 use Rattle.typing_rules.specs.Checked.{and_then}
 use Rattle.typing.specs.Statements.{WrittenVariable, opened, opened_record, written_record}

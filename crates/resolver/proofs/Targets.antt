@@ -1,5 +1,5 @@
 -- Targets of assignments: how their typing goes on from what is reached, and how they look.
-use Rattle.std.proofs.Common.{◌≡◌, ℕ, true, false, List, [], ◌∷◌, ◌++◌, Option, Some, None, Result, Ok, Err, IfOk, length, inl, inr, refl, sym, ap, ap₂, ◌∙◌}
+use Rattle.std.proofs.Common.{◌≡◌, true, false, List, [], ◌∷◌, ◌++◌, Option, Some, None, Result, Ok, Err, IfOk, length, inl, inr, refl, sym, ap, ap₂, ◌∙◌}
 use Rattle.place.specs.declared.Place.{Place}
 use Rattle.syntax_tree.specs.declared.Name.{Name}
 use Rattle.syntax_tree.specs.declared.Selector.{Selector}
@@ -14,17 +14,17 @@ use Rattle.typed_tree.specs.Accesses.{Origin, index_count, origin_of, root_of}
 use Rattle.typed_tree.specs.Look.{Look, Access, Target, WholeTarget}
 use Rattle.typing.specs.Expressions.{Denoted, Written, kind_now, selected}
 use Rattle.typing_rules.specs.Denotations.{as_routine}
-use Rattle.typing.specs.Outcomes.{IsFault, Makes}
+use Rattle.typing.specs.Outcomes.{Makes}
 use Rattle.typing.specs.Passing.{Passed, Passing, After, after, behind_marks, mark, pure, ◌>>=◌, ◌>>◌}
 use Rattle.typing_rules.specs.Checked.{Checked, and_then}
-use Rattle.typing.specs.Statements.{Accessed, assigned, assigned_by_kind, copied, target, target_mark, target_of}
+use Rattle.typing.specs.Statements.{Accessed, assigned, assigned_by_kind, target, target_mark, target_of}
 use Rattle.typing.specs.Steps.{enter_as, find, may_change}
 use Rattle.typing.proofs.Rows.{behind_nothing}
 use Rattle.expression_resolver.specs.declared.typed.Reached.{Reached}
 use Rattle.expression_resolver.specs.Accesses.{look_reached, reached}
 use Rattle.expression_resolver.specs.Values.{tested_as}
 use Rattle.expression_resolver.proofs.Selecting.{look_made, reached_then}
-use Rattle.resolver.specs.Made.{MakesTarget, accessed_of, look_target, target_look}
+use Rattle.resolver.specs.Made.{MakesTarget, accessed_of, target_look}
 
 -- the mark of what is reached
 mark_counted : (kind : Option TypeKind) (made : Reached) (origin : Origin) → origin_of made.access ≡ origin

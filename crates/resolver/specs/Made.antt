@@ -1,6 +1,6 @@
 -- How the resolver's answers are what typing says of statements: what is made of a form looks so. It says nothing of
 -- what typing answers.
-use Rattle.std.specs.Prelude.{◌≡◌, ℕ, ℤ, Bool, true, false, List, [], ◌∷◌, ◌++◌, flat_map, length, Result, Ok, Err}
+use Rattle.std.specs.Prelude.{◌≡◌, ℕ, ℤ, Bool, true, List, [], ◌∷◌, ◌++◌, flat_map, length, Result, Ok, Err}
 use Rattle.std.specs.Prelude.{Option, Some, None, Vec, IsPermutation, map}
 use Rattle.std.specs.List.{list_all}
 use Rattle.std.specs.List.Sorted.{IsNonDecreasingBy}
@@ -10,10 +10,6 @@ use Rattle.std.specs.declared.boxed.Box.{Box}
 use Rattle.syntax_tree.specs.declared.Program.{Program}
 use Rattle.syntax_tree.specs.declared.Actual.{Actual}
 use Rattle.syntax_tree.specs.declared.Stmt.{Stmt as SyntaxStmt}
-use Rattle.syntax_tree.specs.declared.Stmt.TheOpen.{Stmt-F}
-use Rattle.syntax_tree.specs.declared.Stmt.TheOpen.Stmt-F.{If as IfOf, Case as CaseOf, While as WhileOf}
-use Rattle.syntax_tree.specs.declared.Stmt.TheOpen.Stmt-F.{Repeat as RepeatOf, For as ForOf}
-use Rattle.syntax_tree.specs.declared.Stmt.TheViews.{out-Stmt}
 use Rattle.place.specs.declared.Place.{Place}
 use Rattle.typed_tree.specs.declared.fault.TypeFault.{TypeFault}
 use Rattle.typed_tree.specs.declared.tree.Tree.{Tree}
@@ -35,7 +31,8 @@ use Rattle.types.specs.Types.{kind_of}
 use Rattle.typed_tree.specs.declared.tree.WithRecord.{WithRecord}
 use Rattle.typed_tree.specs.Accesses.{AtVariable, origin_of}
 use Rattle.typed_tree.specs.Kinds.{are_held, is_held_stmt}
-use Rattle.typed_tree.specs.Look.{Look, Mark, Fits, If, Then, Else, For, Case, Target, WholeTarget, blocks_of_look}
+use Rattle.typed_tree.specs.Look.{Look, Mark, Fits, If, Then, Else, For, Case, Target, WholeTarget}
+use Rattle.typed_tree.specs.Look.{blocks_of_look}
 use Rattle.typed_tree.specs.Look.{look_block, look_expr, look_stmt, arms_look, tree_look, look_access, look_written}
 use Rattle.typed_tree.specs.Look.{look_parameter, look_read, look_record, look_width}
 use Rattle.typing.specs.Expressions.{Denoted, WrittenActual, entire, written_actual}
@@ -120,25 +117,6 @@ for_head_look head =
 abbrev pub MakesForHead : Checked (After ℕ) → Result ForHead TypeFault → Passed → Type 0
 MakesForHead = Makes (λ head. head.control) for_head_look
 
--- a conditional statement (6.8.3.3)
-abbrev pub is_conditional_form : Stmt-F SyntaxStmt → Bool
-is_conditional_form (IfOf place condition consequence alternative) = true
-is_conditional_form (CaseOf place index constants arms semicolon) = true
-is_conditional_form other = false
-
-abbrev pub is_conditional : SyntaxStmt → Bool
-is_conditional s = is_conditional_form (out-Stmt s)
-
--- a repetitive statement (6.8.3.6)
-abbrev pub is_repetitive_form : Stmt-F SyntaxStmt → Bool
-is_repetitive_form (WhileOf place condition body) = true
-is_repetitive_form (RepeatOf place statements condition) = true
-is_repetitive_form (ForOf place variable first direction last body) = true
-is_repetitive_form other = false
-
-abbrev pub is_repetitive : SyntaxStmt → Bool
-is_repetitive s = is_repetitive_form (out-Stmt s)
-
 -- a case as far as its `of`, by the type of its index
 abbrev pub MakesCaseHead : Checked (After TypeId) → Result (CaseHead × TypeId) TypeFault → Passed → Type 0
 MakesCaseHead = Makes (λ made. made.1) (λ made. Case made.0.number made.0.site ∷ look_expr made.0.index)
@@ -157,6 +135,12 @@ MakesConstants old new outcome (Err why) passed = IsFault outcome why
 -- a statement in a box
 abbrev pub MakesBoxed : Checked (After (Unit {0})) → Result (Box Stmt Global) TypeFault → Passed → Type 0
 MakesBoxed = Makes (λ made. tt) (λ made. look_stmt made.value)
+
+-- what was made, in a box
+abbrev pub Boxes : {T : Type 0} → Result T TypeFault → Result (Box T Global) TypeFault → Type 0
+Boxes (Ok made) (Ok box) = box.value ≡ made
+Boxes (Err why) (Ok box) = ⊥
+Boxes made (Err why) = IsFault made why
 
 -- how the statement behind `else` looks, where there is one
 abbrev pub look_else : Option (Box Stmt Global) → Look

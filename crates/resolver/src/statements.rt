@@ -6,12 +6,14 @@ ghost use Rattle.typing.specs.Expressions.{expression};
 ghost use Rattle.typing.specs.Passing.{behind_marks, each};
 ghost use Rattle.typing.specs.Statements as spec;
 ghost use Rattle.resolver.specs.Made.{MakesStmt, MakesStmts, MakesBoxed, MakesAlternative, MakesArms};
-ghost use Rattle.resolver.specs.Made.{for_head_look, is_conditional, is_held_else, is_repetitive};
+ghost use Rattle.resolver.specs.Forms.{is_conditional, is_repetitive};
+ghost use Rattle.resolver.specs.Made.{for_head_look, is_held_else};
 
 use crate::assignments::assignment;
 use crate::calls::procedure_call;
 use crate::cases::constant_row;
 use crate::heads::{case_head, condition, empty, for_head, if_head};
+use crate::memory::{in_box, made_beside};
 use crate::records::{close_records, opened_records};
 use indexmap::IndexSet;
 use place::Place;
@@ -67,8 +69,8 @@ fn conditional(typer: &mut Typer, written: &syntax::Stmt) -> Result<Stmt, TypeFa
             alternative,
         } => {
             let (number, condition) = if_head(typer, *place, condition)?;
-            let consequence = boxed(typer, consequence)?;
-            let alternative = other(typer, alternative)?;
+            let consequence = made_beside!(boxed(typer, consequence), condition);
+            let alternative = made_beside!(other(typer, alternative), condition, consequence);
             Ok(Stmt::If {
                 number,
                 condition,
@@ -152,8 +154,8 @@ fn boxed(typer: &mut Typer, written: &syntax::Stmt) -> Result<Box<Stmt>, TypeFau
     ensures made { MakesBoxed (spec.statement written.now typer.old) result typer.new }
     ensures held { IfOk result (λ made. is_held_stmt made.value ≡ true) }
 {
-    let made = statement(typer, written)?;
-    Ok(Box::new(typer.alloc, made)?)
+    let made = statement(typer, written);
+    in_box(typer.alloc, made)
 }
 
 // The statement behind `else`, if there is one.
@@ -194,7 +196,7 @@ fn while_loop(
         place,
         condition: condition(typer, tested)?,
     };
-    let body = boxed(typer, body)?;
+    let body = made_beside!(boxed(typer, body), head);
     Ok(Stmt::While { head, body })
 }
 
@@ -214,11 +216,12 @@ fn repeat_loop(
     typer.pass(place);
     let (number, loop_number) = typer.enter_loop()?;
     let statements = statements(typer, written)?;
+    let condition = made_beside!(condition(typer, tested), statements);
     let head = LoopHead {
         number,
         loop_number,
         place,
-        condition: condition(typer, tested)?,
+        condition,
     };
     Ok(Stmt::Repeat { head, statements })
 }
@@ -233,8 +236,8 @@ fn for_loop(typer: &mut Typer, head: ForHead, body: &syntax::Stmt) -> Result<Stm
         typer.old)) result typer.new }
     ensures held { IfOk result (λ made. is_held_stmt made ≡ true) }
 {
-    typer.begin_control(head.control)?;
-    let body = boxed(typer, body)?;
+    made_beside!(typer.begin_control(head.control), head);
+    let body = made_beside!(boxed(typer, body), head);
     typer.end_control();
     Ok(Stmt::For { head, body })
 }
@@ -254,7 +257,7 @@ fn case_statement(
     ensures held { IfOk result (λ made. is_held_stmt made ≡ true) }
 {
     let (head, type_id) = case_head(typer, place, index)?;
-    let (constants, arms) = case_arms(typer, type_id, constants, arms)?;
+    let (constants, arms) = made_beside!(case_arms(typer, type_id, constants, arms), head);
     let head = CaseHead { constants, ..head };
     Ok(Stmt::Case { head, arms })
 }

@@ -1,4 +1,4 @@
-use Rattle.std.proofs.Common.{rules, ◌≡◌, false, true, ap, subst, ◌∙◌}
+use Rattle.std.proofs.Common.{rules, ◌≡◌, false, true}
 use Rattle.types.specs.Types.{is_structured_kind, kind_of}
 use Rattle.typed_tree.proofs.Looks.{look_assign, look_copy}
 use Rattle.typed_tree.specs.Accesses.{origin_of}

@@ -1,4 +1,4 @@
-use Rattle.std.proofs.Common.{◌≡◌, [], ap, subst, ◌∙◌}
+use Rattle.std.proofs.Common.{[], subst}
 use Rattle.types.specs.Types.{kind_of}
 use Rattle.typed_tree.specs.Accesses.{AtVariable}
 use Rattle.typed_tree.specs.Look.{Fits}

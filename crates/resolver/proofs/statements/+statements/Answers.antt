@@ -1,14 +1,14 @@
-use Rattle.std.proofs.Common.{rules, ◌<◌, ◌≤◌, [], ◌∷◌, ◌++◌, length, map, Ok, sym, ap, subst, ◌∙◌, arith, vec_len, vec_capacity}
+use Rattle.std.proofs.Common.{rules, ◌≡◌, true, ◌<◌, ◌≤◌, [], length, map, Ok, sym, ap, ◌∙◌, arith, vec_len, vec_capacity}
 use Rattle.std.proofs.lemmas.Bool.Decides.{nat_tests}
 use Rattle.typed_tree.specs.Kinds.{is_held_stmt}
 use Rattle.typed_tree.specs.Look.{look_stmt}
 use Rattle.typed_tree.specs.Tests.{all_hold}
 use Rattle.typing.specs.Passing.{after, each}
-use Rattle.typing.specs.Statements.{statement, constant_row, case_arms, with_statement}
+use Rattle.typing.specs.Statements.{statement, constant_row, with_statement}
 use Rattle.typing.specs.Steps.{next_slot}
 use Rattle.typed_tree.proofs.Looks.{look_with}
-use Rattle.syntax_tree.specs.Places.{arms_of}
 use Rattle.typing.specs.Outcomes.{IsFault}
+use Rattle.resolver.proofs.Boxed.{boxed_makes, boxed_held}
 use Rattle.resolver.proofs.CaseArms.{stands_at, arm_goes, arm_made, arm_left_out, arms_end}
 use Rattle.resolver.proofs.HeldStatements.{held_more}
 use Rattle.resolver.proofs.MadeRows.{row_goes_on, row_stops}
@@ -37,6 +37,17 @@ statements-returns-in_err-statement-clause-made t c =
     row_stops statement (λ s. s) look_stmt c.args.written.now c.args.typer.now c.loop-next.next-index c.next-item.result c.loop-next.made.items
     c.loop-next.typer c.loop-next-test.true c.next-item.is c.loop-next.invariant.from why c.in_err-statement.ensures.made in
     search rules
+
+-- ---- a statement inside another
+
+pub boxed-returns-clause-made : goal.boxed-returns-clause-made
+boxed-returns-clause-made t c =
+    boxed_makes look_stmt (statement c.args.written.now c.args.typer.now) c.statement-made.result c.statement-made.new.typer c.in_box.result
+    c.statement-made.ensures.made c.in_box.ensures
+
+pub boxed-returns-clause-held : goal.boxed-returns-clause-held
+boxed-returns-clause-held t c =
+    boxed_held (λ made. is_held_stmt made ≡ true) c.statement-made.result c.in_box.result c.statement-made.ensures.held c.in_box.ensures
 
 -- ---- the arms of a case
 
