@@ -7,7 +7,7 @@ mod blocks;
 mod calls;
 mod cases;
 mod heads;
-mod memory;
+mod owned;
 mod program;
 mod reading;
 mod records;

@@ -13,7 +13,7 @@ use crate::assignments::assignment;
 use crate::calls::procedure_call;
 use crate::cases::constant_row;
 use crate::heads::{case_head, condition, empty, for_head, if_head};
-use crate::memory::{in_box, made_beside};
+use crate::owned::{in_box, made_beside};
 use crate::records::{close_records, opened_records};
 use indexmap::IndexSet;
 use place::Place;
