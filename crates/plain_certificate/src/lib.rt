@@ -5,6 +5,7 @@ ghost use Rattle.std.specs.Prelude.{◌≡◌, IfOk, true};
 ghost use Rattle.certificate.specs.Contents.{are_in_order, contents};
 ghost use Rattle.checker_calls.specs.Names.{is_known};
 ghost use Rattle.checker_calls.specs.Plain.{HasNoFacts, ListsAll};
+ghost use Rattle.plain_certificate.specs.Widest.{HasNumbers};
 
 mod loops;
 mod pairs;
@@ -12,7 +13,7 @@ mod roots;
 mod sections;
 
 use certificate::{Certificate, Version};
-use roots::check_numbers;
+use roots::has_numbers;
 use sections::sections;
 use std::alloc::{AllocError, Global};
 use typed_tree::tree::Tree;
@@ -21,15 +22,22 @@ use typed_tree::tree::Tree;
 /// Sections, and in each of them pairs, changes and loops, are in ascending order; what lists nothing is left out. So
 /// what is written of it is read again.
 ///
+/// A program with more than 1,000,000 variables, loops or blocks, for which a certificate has no numbers, gets one that
+/// lists nothing.
+///
 /// # Errors
-/// Want of memory, or a program with more than 1,000,000 variables, loops or blocks, for which a certificate has no
-/// numbers.
+/// No memory.
 pub fn widest(alloc: Global, tree: &Tree) -> Result<Certificate, AllocError>
     ensures lists { IfOk result (λ certificate. (is_known tree.now certificate ≡ true)
-        × HasNoFacts certificate × ListsAll tree.now certificate) }
+        × HasNoFacts certificate × (HasNumbers tree.now → ListsAll tree.now certificate)) }
     ensures in_order { IfOk result (λ certificate. are_in_order (contents certificate) ≡ true) }
 {
-    check_numbers(tree)?;
+    if !has_numbers(tree) {
+        return Ok(Certificate {
+            version: Version::One,
+            sections: Vec::new(alloc),
+        });
+    }
     Ok(Certificate {
         version: Version::One,
         sections: sections(alloc, tree)?,

@@ -1,7 +1,7 @@
 //! What is claimed of the loops of a block (ISO 7185:1990, 6.8.3.6): each may change all that is visible there.
 ghost use Rattle.std.specs.Prelude.{◌≡◌, IfOk, map};
 ghost use Rattle.certificate.specs.Contents.{loop_of};
-ghost use Rattle.plain_certificate.specs.Widest.{block_loops, loop_with, loops_of, loops_with};
+ghost use Rattle.plain_certificate.specs.Widest.{HasNumbers, block_loops, loop_with, loops_of, loops_with};
 ghost use Rattle.checker_calls.specs.Names.{stands_in};
 ghost use Rattle.std.specs.Prelude.{slice_get};
 
@@ -16,6 +16,7 @@ pub(crate) fn block_loops(
     tree: &Tree,
     block: u32,
 ) -> Result<Vec<LoopClaims>, AllocError>
+    requires { HasNumbers tree.now }
     ensures { IfOk result (λ loops. map loop_of loops.items ≡ block_loops tree.now block) }
 {
     let roots = visible_roots(alloc, tree, block)?;
@@ -27,9 +28,10 @@ pub(crate) fn block_loops(
 
 /// The loops of a block.
 fn loops_of(alloc: Global, tree: &Tree, block: u32) -> Result<Vec<u32>, AllocError>
+    requires { HasNumbers tree.now }
     ensures { IfOk result (λ numbers. numbers.items ≡ loops_of tree.now block) }
 {
-    (0..count(tree.loops.len())?)
+    (0..count(tree.loops.len()))
         .filter(|number| stands_in(tree, block, *number))
         .collect(alloc)
 }

@@ -1,6 +1,6 @@
 //! The pairs of variables that may be listed of a block (ISO 7185:1990, 6.6.3.3).
 ghost use Rattle.std.specs.Prelude.{◌≡◌, ◌++◌, IfOk, OnOk};
-ghost use Rattle.plain_certificate.specs.Widest.{block_pairs, pairs_with};
+ghost use Rattle.plain_certificate.specs.Widest.{HasNumbers, block_pairs, pairs_with};
 
 use crate::roots::{paired_roots, parameters_of};
 use certificate::AliasPair;
@@ -14,6 +14,7 @@ pub(crate) fn block_pairs(
     tree: &Tree,
     block: u32,
 ) -> Result<Vec<AliasPair>, AllocError>
+    requires { HasNumbers tree.now }
     ensures { IfOk result (λ pairs. pairs.items ≡ block_pairs tree.now block) }
 {
     let paired = paired_roots(alloc, tree, block)?;

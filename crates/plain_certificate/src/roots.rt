@@ -1,5 +1,5 @@
 //! Variables by their root numbers: those that a certificate may name of a block (ISO 7185:1990, 6.2.2, 6.6.3).
-ghost use Rattle.std.specs.Prelude.{◌≡◌, IfOk, OnOk};
+ghost use Rattle.std.specs.Prelude.{◌≡◌, ◌↔◌, IfOk, IsTrue};
 ghost use Rattle.plain_certificate.specs.Widest.{outward_roots, paired_roots, parameters_of, visible_roots};
 ghost use Rattle.plain_certificate.specs.Widest.{HasNumbers, HasNumbersFor, may_pair};
 
@@ -12,59 +12,57 @@ use typed_tree::tree::Tree;
 /// How many numbers a certificate has for variables, loops and blocks: those up to 999,999.
 const NUMBERS: usize = 1_000_000;
 
-/// How many items a table has, if a certificate has a number for each.
-pub(crate) fn count(length: usize) -> Result<u32, AllocError>
-    ensures counted { IfOk result (λ count. count ≡ length) }
-    ensures numbered { IfOk result (λ count. HasNumbersFor length) }
+/// Whether a certificate has a number for each variable, loop and block of a program.
+pub(crate) fn has_numbers(tree: &Tree) -> bool
+    ensures { IsTrue result ↔ HasNumbers tree.now }
 {
-    match u32::try_from(length) {
-        Ok(count) if length <= NUMBERS => Ok(count),
-        _ => Err(AllocError),
-    }
+    tree.variables.len() <= NUMBERS && tree.loops.len() <= NUMBERS && tree.blocks.len() <= NUMBERS
 }
 
-/// Refuses a program for whose variables, loops or blocks a certificate has too few numbers.
-pub(crate) fn check_numbers(tree: &Tree) -> Result<(), AllocError>
-    ensures { OnOk result (HasNumbers tree.now) }
+/// How many items a table has, for each of which a certificate has a number.
+pub(crate) fn count(length: usize) -> u32
+    requires { HasNumbersFor length }
+    ensures { result ≡ length }
 {
-    count(tree.variables.len())?;
-    count(tree.loops.len())?;
-    count(tree.blocks.len())?;
-    Ok(())
+    length as u32
 }
 
 /// The variables that are visible in a block.
 pub(crate) fn visible_roots(alloc: Global, tree: &Tree, block: u32) -> Result<Vec<u32>, AllocError>
+    requires { HasNumbers tree.now }
     ensures { IfOk result (λ roots. roots.items ≡ visible_roots tree.now block) }
 {
-    (0..count(tree.variables.len())?)
+    (0..count(tree.variables.len()))
         .filter(|root| is_visible(tree, block, *root))
         .collect(alloc)
 }
 
 /// Those that its callers may know.
 pub(crate) fn outward_roots(alloc: Global, tree: &Tree, block: u32) -> Result<Vec<u32>, AllocError>
+    requires { HasNumbers tree.now }
     ensures { IfOk result (λ roots. roots.items ≡ outward_roots tree.now block) }
 {
-    (0..count(tree.variables.len())?)
+    (0..count(tree.variables.len()))
         .filter(|root| is_outward(tree, block, *root))
         .collect(alloc)
 }
 
 /// Its variable parameters.
 pub(crate) fn parameters_of(alloc: Global, tree: &Tree, block: u32) -> Result<Vec<u32>, AllocError>
+    requires { HasNumbers tree.now }
     ensures { IfOk result (λ roots. roots.items ≡ parameters_of tree.now block) }
 {
-    (0..count(tree.variables.len())?)
+    (0..count(tree.variables.len()))
         .filter(|root| is_variable_parameter(tree, block, *root))
         .collect(alloc)
 }
 
 /// What may be in a pair.
 pub(crate) fn paired_roots(alloc: Global, tree: &Tree, block: u32) -> Result<Vec<u32>, AllocError>
+    requires { HasNumbers tree.now }
     ensures { IfOk result (λ roots. roots.items ≡ paired_roots tree.now block) }
 {
-    (0..count(tree.variables.len())?)
+    (0..count(tree.variables.len()))
         .filter(|root| may_pair(tree, block, *root))
         .collect(alloc)
 }

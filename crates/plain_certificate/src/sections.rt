@@ -1,7 +1,7 @@
 //! Sections of a certificate, block by block.
 ghost use Rattle.std.specs.Prelude.{◌≡◌, IfOk, map};
 ghost use Rattle.certificate.specs.Contents.{section_of as contents_of};
-ghost use Rattle.plain_certificate.specs.Widest.{is_vacant, section_of, widest};
+ghost use Rattle.plain_certificate.specs.Widest.{HasNumbers, is_vacant, section_of, widest};
 
 use crate::loops::block_loops;
 use crate::pairs::block_pairs;
@@ -12,10 +12,11 @@ use typed_tree::tree::Tree;
 
 /// The sections of all blocks, without those that list nothing.
 pub(crate) fn sections(alloc: Global, tree: &Tree) -> Result<Vec<Section>, AllocError>
+    requires { HasNumbers tree.now }
     ensures { IfOk result (λ sections. map contents_of sections.items ≡ widest tree.now) }
 {
     let mut sections = Vec::new(alloc);
-    for block in 0..count(tree.blocks.len())? {
+    for block in 0..count(tree.blocks.len()) {
         let section = section_of(alloc, tree, block)?;
         if !is_vacant(&section) {
             sections.push(section)?;
@@ -26,6 +27,7 @@ pub(crate) fn sections(alloc: Global, tree: &Tree) -> Result<Vec<Section>, Alloc
 
 /// The section of a block.
 fn section_of(alloc: Global, tree: &Tree, block: u32) -> Result<Section, AllocError>
+    requires { HasNumbers tree.now }
     ensures { IfOk result (λ section. contents_of section ≡ section_of tree.now block) }
 {
     let mut section = Section {

@@ -12,6 +12,6 @@ returns c =
     let certificate : Certificate = record { version = One; sections = c.in_ok-sections.field-0 } in
     let is = c.in_ok-sections.ensures in
     record {
-      lists = (names-known tree certificate is, no-facts tree certificate is, lists-all tree certificate is);
-      in_order = ap are_in_order is ∙ widest-is-in-order tree c.in_ok-check_numbers.ensures;
+      lists = (names-known tree certificate is, no-facts tree certificate is, λ numbers. lists-all tree certificate is);
+      in_order = ap are_in_order is ∙ widest-is-in-order tree (c.has_numbers.ensures.0 c.if-not-has_numbers.false);
     }
