@@ -12,13 +12,11 @@ MADE = re.compile(
     r"\b(?:Ok|Err|Some)\(AllocError\)|\bAllocError\s*\.|[=(]\s*AllocError\s*[;,)]|\breturn AllocError\b"
     r"|^\s*AllocError\s*,?$|\{[^{}]*: AllocError\b[^{}]*\}|\bAllocFailed\s*\{"
 )
-# Tables too large for the numbers that the checker and a certificate have for them: no memory holds most of these, and
-# that typing refuses the others isn't built yet.
+# Tables too large for the numbers that the checker has for them: no memory holds them, and no well formed tree has any.
 TOO_LARGE = {
     "crates/cert_checker/src/blocks.rt",
     "crates/cert_checker/src/visits.rt",
     "crates/checker_loops/src/starts.rt",
-    "crates/plain_certificate/src/roots.rt",
 }
 # The refusals that come without an error of the allocator: that of clap, and that of the system.
 TOLD = re.compile(r"\bErrorKind::OutOfMemory =>")

@@ -6,6 +6,7 @@ ghost use Rattle.certificate.specs.Contents.{are_in_order, contents};
 ghost use Rattle.checker_calls.specs.Names.{is_known};
 ghost use Rattle.checker_calls.specs.Plain.{HasNoFacts, ListsAll};
 ghost use Rattle.plain_certificate.specs.Widest.{HasNumbers};
+ghost use Rattle.typed_tree.specs.WellFormed.{IsWellFormed};
 
 mod loops;
 mod pairs;
@@ -30,6 +31,9 @@ use typed_tree::tree::Tree;
 pub fn widest(alloc: Global, tree: &Tree) -> Result<Certificate, AllocError>
     ensures lists { IfOk result (λ certificate. (is_known tree.now certificate ≡ true)
         × HasNoFacts certificate × (HasNumbers tree.now → ListsAll tree.now certificate)) }
+    // A well formed program has no more than there are numbers.
+    ensures well_formed { IsWellFormed tree.now → IfOk result (λ certificate. (is_known tree.now certificate ≡ true)
+        × HasNoFacts certificate × ListsAll tree.now certificate) }
     ensures in_order { IfOk result (λ certificate. are_in_order (contents certificate) ≡ true) }
 {
     if !has_numbers(tree) {

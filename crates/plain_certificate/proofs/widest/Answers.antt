@@ -13,5 +13,6 @@ returns c =
     let is = c.in_ok-sections.ensures in
     record {
       lists = (names-known tree certificate is, no-facts tree certificate is, λ numbers. lists-all tree certificate is);
+      well_formed = λ well. (names-known tree certificate is, no-facts tree certificate is, lists-all tree certificate is);
       in_order = ap are_in_order is ∙ widest-is-in-order tree (c.has_numbers.ensures.0 c.if-not-has_numbers.false);
     }
