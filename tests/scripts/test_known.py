@@ -11,6 +11,7 @@ import subprocess
 import sys
 import tempfile
 import unittest
+from zlib import crc32
 
 TOP = os.path.dirname(os.path.dirname(os.path.dirname(os.path.abspath(__file__))))
 PROGRAM = os.environ["PCOM"]
@@ -170,10 +171,10 @@ class Known(unittest.TestCase):
         self.assertGreaterEqual(count, 25)
 
     def test_ranges_in_cases(self):
-        """The same of programs of tests/cases, which have forms that no other has; one in so many."""
+        """The same of programs of tests/cases, which have forms that no other has; one in so many, by their names."""
         count = 0
-        for case in read_cases()[0][::EACH]:
-            if case.source and len(case.source) < MOST_BYTES:
+        for case in read_cases()[0]:
+            if crc32(case.name.encode()) % EACH == 0 and case.source and len(case.source) < MOST_BYTES:
                 path = self.put(case.source)
                 count += self.assert_just(path) if not any("refused" in line for line in ran(path)) else 0
         self.assertGreater(count, 25)
