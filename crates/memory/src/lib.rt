@@ -3,8 +3,9 @@
 
 use std::alloc::{AllocError, AllocFailed};
 
-/// That an allocation was refused. It is made of the allocator's own error alone, so a fault that carries it can't be
-/// told where all memory was had.
+/// That an allocation was refused. Its field is private, so it is made of the allocator's own error alone. Anyone could
+/// make such an error, so that no crate here does is what a test of the sources asks; then a fault that carries this
+/// tells of an allocation that was refused.
 #[derive(Clone, Copy, Debug)]
 pub struct Refused {
     by: AllocError,
