@@ -12,7 +12,7 @@ use Rattle.code_scheme.specs.declared.routine.Routine.{Routine}
 use Rattle.code_scheme.specs.Calls.{place_in, with_call}
 use Rattle.code_scheme.specs.Code.{block_code, blocks_code, end_code, numbered, numbered_code, program_code, routines_from, routines_of, stmt_code}
 use Rattle.code_scheme.specs.Depth.{block_depth}
-use Rattle.code_scheme.specs.Large.{has_large_frame, is_large_block, is_too_large}
+use Rattle.code_scheme.specs.Large.{is_too_large, one_passes_too_much, passes_too_much}
 use Rattle.code_scheme.specs.Scopes.{Scope, count, other_cells, routine_or_none}
 use Rattle.code_scheme.proofs.Routines.{place_of_block, program_is_moved}
 use Rattle.code_emitter.specs.declared.emitter.Loss.TheVariants.{TooLarge}
@@ -38,8 +38,8 @@ small_block {a = a} {b = b} {p = p} large is g = subst (λ l. Grows l a b p) is 
 
 -- what is still to come until all blocks have their code, and the places of those that have it
 pub record BlocksLeft (tree : Tree) (now : Seen) (places : List ℕ) (n : ℕ) (blocks : List Block) : Type 0 where
-  pub ends : (end : Seen) → Grows (has_large_frame tree n blocks) now end (blocks_code tree (numbered tree) n blocks (place_of now))
-      → Grows (has_large_frame tree 0 tree.blocks.items) (Ok []) end (blocks_code tree (numbered tree) 0 tree.blocks.items 0)
+  pub ends : (end : Seen) → Grows (one_passes_too_much tree n blocks) now end (blocks_code tree (numbered tree) n blocks (place_of now))
+      → Grows (one_passes_too_much tree 0 tree.blocks.items) (Ok []) end (blocks_code tree (numbered tree) 0 tree.blocks.items 0)
   pub stand : IsKept now → places ++ map (λ (r : Routine). r.place) (routines_from tree n blocks (place_of now)) ≡ map (λ (r : Routine). r.place)
       (routines_of tree)
 
@@ -48,7 +48,7 @@ blocks_first tree blocks is = subst (BlocksLeft tree (Ok []) [] 0) (sym is) (rec
 
 pub blocks_more : (tree : Tree) (now after : Seen) (places places' : List ℕ) (n : ℕ) (block : Block) (left blocks : List Block) (place : ℕ)
     → BlocksLeft tree now places n left → left ≡ block ∷ blocks → place ≡ place_of now → places' ≡ places ++ (place ∷ [])
-    → Grows (is_large_block tree n block) now after (numbered_code tree n block (place_of now)) → BlocksLeft tree after places' (n + 1) blocks
+    → Grows (passes_too_much tree n) now after (numbered_code tree n block (place_of now)) → BlocksLeft tree after places' (n + 1) blocks
 blocks_more tree now after places places' n block left blocks place w next at grown g =
     let here = subst (BlocksLeft tree now places n) next w in
     let suc_is : suc n ≡ n + 1 = omega arith in
@@ -63,7 +63,7 @@ blocks_more tree now after places places' n block left blocks place w next at gr
 
 -- all of them
 pub blocks_all : (tree : Tree) (now : Seen) (places : List ℕ) (n : ℕ) (left : List Block) → BlocksLeft tree now places n left → left ≡ []
-    → Grows (has_large_frame tree 0 tree.blocks.items) (Ok []) now (blocks_code tree (numbered tree) 0 tree.blocks.items 0)
+    → Grows (one_passes_too_much tree 0 tree.blocks.items) (Ok []) now (blocks_code tree (numbered tree) 0 tree.blocks.items 0)
 blocks_all tree now places n left w none = (subst (BlocksLeft tree now places n) none w).ends now (gets_none now)
 
 pub places_all : (tree : Tree) (now : Seen) (places : List ℕ) (n : ℕ) (left : List Block) → BlocksLeft tree now places n left → left ≡ [] → IsKept now
@@ -77,10 +77,11 @@ numbered_long tree =
     ∙ length-map (blocks_code tree (numbered tree) 0 tree.blocks.items 0) (with_call (place_of_block tree)))
 
 pub is_large_program : (tree : Tree) (now : Seen) → now ≡ Err TooLarge
-    → Grows (has_large_frame tree 0 tree.blocks.items) (Ok []) now (blocks_code tree (numbered tree) 0 tree.blocks.items 0) → is_too_large tree ≡ true
+    → Grows (one_passes_too_much tree 0 tree.blocks.items) (Ok []) now (blocks_code tree (numbered tree) 0 tree.blocks.items 0) → is_too_large tree ≡ true
 is_large_program tree now is g =
-    let large = subst (λ s. HasMore (has_large_frame tree 0 tree.blocks.items) (Ok []) s (blocks_code tree (numbered tree) 0 tree.blocks.items 0)) is g.more in
-    sym (ap (λ n. nat_lt 1000000 n || has_large_frame tree 0 tree.blocks.items) (numbered_long tree)) ∙ large
+    let large =
+    subst (λ s. HasMore (one_passes_too_much tree 0 tree.blocks.items) (Ok []) s (blocks_code tree (numbered tree) 0 tree.blocks.items 0)) is g.more in
+    sym (ap (λ n. nat_lt 1000000 n || one_passes_too_much tree 0 tree.blocks.items) (numbered_long tree)) ∙ large
 
 -- calls that lead to the same places
 same_call : (f g : ℕ → ℕ) → ((n : ℕ) → f n ≡ g n) → (i : Instr) → with_call f i ≡ with_call g i
@@ -93,9 +94,9 @@ same_calls f g same (i ∷ code) =
     ap (λ j. j ∷ map (with_call f) code) (same_call f g same i) ∙ ap (λ c. with_call g i ∷ c) (same_calls f g same code)
 
 module _ (tree : Tree) (now : Seen) (code : List Instr) (is : now ≡ Ok code)
-    (g : Grows (has_large_frame tree 0 tree.blocks.items) (Ok []) now (blocks_code tree (numbered tree) 0 tree.blocks.items 0)) where
-  has_code : HasMore (has_large_frame tree 0 tree.blocks.items) (Ok []) (Ok code) (blocks_code tree (numbered tree) 0 tree.blocks.items 0)
-  has_code = subst (λ s. HasMore (has_large_frame tree 0 tree.blocks.items) (Ok []) s (blocks_code tree (numbered tree) 0 tree.blocks.items 0)) is g.more
+    (g : Grows (one_passes_too_much tree 0 tree.blocks.items) (Ok []) now (blocks_code tree (numbered tree) 0 tree.blocks.items 0)) where
+  has_code : HasMore (one_passes_too_much tree 0 tree.blocks.items) (Ok []) (Ok code) (blocks_code tree (numbered tree) 0 tree.blocks.items 0)
+  has_code = subst (λ s. HasMore (one_passes_too_much tree 0 tree.blocks.items) (Ok []) s (blocks_code tree (numbered tree) 0 tree.blocks.items 0)) is g.more
 
   pub is_small_program : length code ≤ 1000000 → is_too_large tree ≡ false
   is_small_program few =

@@ -1,18 +1,16 @@
 ghost use Rattle.std.specs.Prelude.{◌≡◌, ℕ};
 ghost use Rattle.code_scheme.specs.Code.{block_code, end_code};
-ghost use Rattle.code_scheme.specs.Depth.{block_depth, result_depth};
+ghost use Rattle.code_scheme.specs.Depth.{result_depth};
 ghost use Rattle.code_scheme.specs.Frames.{frame_of};
-ghost use Rattle.code_scheme.specs.Large.{is_large_block as is_large_one};
-ghost use Rattle.code_scheme.specs.Sizes.{capped};
+ghost use Rattle.code_scheme.specs.Large.{passes_too_much as has_too_much};
 ghost use Rattle.code_emitter.specs.Emitted.{place_of, Gets, Grows};
-ghost use Rattle.typed_tree.specs.declared.tree.Block.{Block as TypedBlock};
 ghost use Rattle.typed_tree.specs.declared.tree.Tree.{Tree};
 
 use crate::emit::emit_stmt;
 use crate::emitter::{Emitter, Loss};
 use crate::instrs::load;
 use code_scheme::frame::Frame;
-use code_scheme::scope::{LINKS, MOST_CELLS, Scope};
+use code_scheme::scope::{MOST_CELLS, Scope};
 use pcode_assembler::instr::Instr;
 use typed_tree::tree::{Block, FunctionResult};
 
@@ -20,10 +18,10 @@ use typed_tree::tree::{Block, FunctionResult};
 const MOST_PASSED: u32 = 65536;
 
 /// The instructions of the block with this number, which has this frame, where its statements run in this scope: its
-/// variables, its statement and its end. One that is too large loses the code.
+/// variables, its statement and its end. One with too many cells of parameters loses the code.
 pub fn emit_block(code: &mut Emitter, scope: &Scope, frame: Frame, number: usize, block: &Block)
     ensures { (tree : Tree) → frame ≡ frame_of tree.types tree.variables.items number
-        → Grows (is_large_one tree number block.now) code.old code.new
+        → Grows (has_too_much tree number) code.old code.new
         (block_code tree number block.now scope.now (place_of code.old)) }
 {
     let enter = code.hole();
@@ -39,7 +37,7 @@ pub fn emit_block(code: &mut Emitter, scope: &Scope, frame: Frame, number: usize
             evaluation,
         },
     );
-    if is_large_block(frame, depth) {
+    if passes_too_much(frame) {
         code.lose(Loss::TooLarge);
     }
 }
@@ -73,15 +71,10 @@ fn needed_by_result(value: Option<FunctionResult>) -> u32
     u32::from(value.is_some())
 }
 
-/// Whether a block with this frame, which needs so many cells at once for its evaluations, takes more cells than a
-/// machine has, or more cells of parameters than a call may pass.
-fn is_large_block(frame: Frame, depth: u32) -> bool
-    ensures { (tree : Tree) (number : ℕ) (block : TypedBlock) → frame ≡ frame_of tree.types tree.variables.items number
-        → depth ≡ capped (block_depth block) → result ≡ is_large_one tree number block }
+/// Whether a block with this frame has more cells of parameters than a call may pass.
+fn passes_too_much(frame: Frame) -> bool
+    ensures { (tree : Tree) (number : ℕ) → frame ≡ frame_of tree.types tree.variables.items number
+        → result ≡ has_too_much tree number }
 {
-    let cells = LINKS
-        .saturating_add(frame.parameters)
-        .saturating_add(frame.others)
-        .saturating_add(depth);
-    cells > MOST_CELLS || frame.parameters > MOST_PASSED
+    frame.parameters > MOST_PASSED
 }

@@ -22,7 +22,7 @@ use Rattle.code_scheme.proofs.Depths.{block_within}
 use Rattle.code_scheme.proofs.Routines.{block_stands}
 use Rattle.code_generator.proofs.Alike.{Activation, World, Lives, Fixed, Lies, LiesIn, IsApart, Leads, leads_above, leads_once, leads_split, leads_within}
 use Rattle.code_generator.proofs.Cells.{Owned, home_is, lies_inside, other_ends, others_few, own_scalars, owned, owned_back, owned_in, parameter_ends, slot_of}
-use Rattle.code_generator.proofs.Cells.{small_block, start_near, starts_as_other, starts_as_parameter, variable_ends}
+use Rattle.code_generator.proofs.Cells.{few_passed, start_near, starts_as_other, starts_as_parameter, variable_ends}
 use Rattle.code_generator.proofs.Laying.{Laid, fitted_length, found, marked, marked_long, no_reference}
 use Rattle.code_generator.proofs.Nesting.{Callable, heading_at, shallow, well_block}
 use Rattle.code_generator.proofs.Parts.{IsPart, part_above}
@@ -368,7 +368,7 @@ module _ (g : Setting) (number : ℕ) (block : Block) (block_is : slice_get g.tr
         let front = ap (parameter_cells g.tree) own in
         let rest = ap (other_cells g.tree) own in
         let start = its_start in
-        let small = (small_block g.tree g.short number block block_is).parameters in
+        let small = few_passed g.tree g.short number block block_is in
         let w = well_block g.tree g.well number block block_is in
         record {
           from = record {
@@ -399,7 +399,7 @@ module _ (g : Setting) (number : ℕ) (block : Block) (block_is : slice_get g.tr
                 let ends = parameter_ends g.tree root v at is in
                 let start = starts_as_parameter g.tree root v is in
                 let front = ap (parameter_cells g.tree) own in
-                let small = (small_block g.tree g.short number block block_is).parameters in
+                let small = few_passed g.tree g.short number block block_is in
                 omega (arith, ends, start, front, small, slot_of g.tree g.known v plain, g.known.cells g.tree.types v.type_id)
             by false is =
                 let ends = other_ends g.tree root v at is in

@@ -24,7 +24,7 @@ use Rattle.code_scheme.proofs.Routines.{block_stands}
 use Rattle.code_generator.proofs.Acts.{framed}
 use Rattle.code_generator.proofs.Alike.{Leads}
 use Rattle.code_generator.proofs.Calling.{begins_frame, enters, full, index_is}
-use Rattle.code_generator.proofs.Cells.{small_block}
+use Rattle.code_generator.proofs.Cells.{few_passed, others_few}
 use Rattle.code_generator.proofs.Laying.{Laid, laid_cells, laid_from}
 use Rattle.code_generator.proofs.Nesting.{Callable, callable as may_be_called, heading_at, well_block}
 use Rattle.code_generator.proofs.Passing.{AllFitted, CallsRun, Returns, left_by, links_of, return_on}
@@ -131,11 +131,9 @@ module _ (g : Setting) (depth : ℕ) (known : CallsRun depth) (depth_is : g.dept
 
   jump_comes : Comes g.target g.target.rate (on g ((base ++ (held ++ links_of g outer)) ++ cells) place s) arrived
   jump_comes =
-      let small = small_block g.tree g.short number block block_is in
-      let few = small.parameters in
-      let whole = small.whole in
+      let few = few_passed g.tree g.short number block block_is in
       let count_is : row_length (called_routine g.scope number).cells ≡ length cells =
-      omega (arith, ap (λ (r : Routine). r.cells) routine, cells_long, few, whole) in
+      omega (arith, ap (λ (r : Routine). r.cells) routine, cells_long, few) in
       let target_is : (called_routine g.scope number).place ≡ code_place = ap (λ (r : Routine). r.place) routine in
       let stack_is : (base ++ (held ++ links_of g outer)) ++ cells ≡ front ++ (links_of g outer ++ cells) =
       ap (λ l. l ++ cells) (sym (append_assoc base held (links_of g outer))) ∙ append_assoc front (links_of g outer) cells in
@@ -163,8 +161,13 @@ module _ (g : Setting) (depth : ℕ) (known : CallsRun depth) (depth_is : g.dept
   stack_long : length stack ≡ g.below + length held + 4 + parameters
   stack_long = omega (arith, front_long, length-append front (links ++ cells), cells_long)
 
-  counts : (count others ≡ others) × (count (block_depth block) ≡ block_depth block)
-  counts = let whole = (small_block g.tree g.short number block block_is).whole in (omega (arith, whole), omega (arith, whole))
+  -- all other variables of the block are counted
+  others_counted : count others ≡ others
+  others_counted = omega (arith, others_few g.tree g.well g.short number block block_is)
+
+  -- and all that its evaluations need, where the frame fits
+  evaluation_counted : g.below + length held + frame_need ≤ g.size → count (block_depth block) ≡ block_depth block
+  evaluation_counted fits = let small = g.small in omega (arith, fits, small)
 
   -- the frame doesn't fit: there were too few cells for the activations that last
   too_few : g.size < g.below + length held + frame_need → g.size < living_need g.tree (number ∷ s.living)
@@ -185,11 +188,13 @@ module _ (g : Setting) (depth : ℕ) (known : CallsRun depth) (depth_is : g.dept
         block_within g.tree g.number g.block g.block_is,
       )
 
+  -- so was the store: what is counted of the evaluations is all that they need, or as much as a machine has
   store_is_full : g.size < g.below + length held + frame_need → Stops g.target arrived (record { output = s.output; stop = stop.StoreFull })
   store_is_full large =
+      let small = g.small in
       stops_by g.target (instr.Enter (count others) (count (block_depth block))) arrived stop.StoreFull code_stands.0.0
       (ap (with_frame (record arrived { place = g.target.to code_place + 1 }))
-      (full (g.below + length held) g.limit g.size stack (count others) (count (block_depth block)) (omega (arith, stack_long, counts.0, counts.1, large))))
+      (full (g.below + length held) g.limit g.size stack (count others) (count (block_depth block)) (omega (arith, stack_long, others_counted, small, large))))
 
   abbrev begun_here : Begun
   begun_here = record { number = s.activations; block = number; heading = block.heading; arguments = arguments; caller = g.environment }
@@ -222,9 +227,10 @@ module _ (g : Setting) (depth : ℕ) (known : CallsRun depth) (depth_is : g.dept
     enters_frame =
         let does : entered (count others) (count (block_depth block)) (framed (g.below + length held) g.limit g.size stack)
         ≡ Some (framed its.frame its.limit its.size entry_cells) =
-        enters (g.below + length held) g.limit g.size stack (count others) (count (block_depth block)) (omega (arith, stack_long, counts.0, counts.1, fits))
-        ∙ ap (λ n. Some (framed its.frame (length stack + n + count (block_depth block)) its.size (stack ++ replicate n Undefined))) counts.0
-        ∙ ap (λ n. Some (framed its.frame n its.size (stack ++ undefined))) (limits stack_long counts.1)
+        enters (g.below + length held) g.limit g.size stack (count others) (count (block_depth block))
+        (omega (arith, stack_long, others_counted, evaluation_counted fits, fits))
+        ∙ ap (λ n. Some (framed its.frame (length stack + n + count (block_depth block)) its.size (stack ++ replicate n Undefined))) others_counted
+        ∙ ap (λ n. Some (framed its.frame n its.size (stack ++ undefined))) (limits stack_long (evaluation_counted fits))
         ∙ ap (λ cs. Some (framed its.frame its.limit its.size cs))
         (append_assoc front (links ++ cells) undefined ∙ ap (λ l. front ++ l) (append_assoc links cells undefined)) in
         comes_by g.target (instr.Enter (count others) (count (block_depth block))) arrived (on its entry_cells inside s1) code_stands.0.0
@@ -254,9 +260,9 @@ module _ (g : Setting) (depth : ℕ) (known : CallsRun depth) (depth_is : g.dept
     body_runs base2 t after =
         let body_stands = stands_front g.target inside (stmt_code block.body its.scope inside) (end_code its.scope number block.heading.result) code_stands.1 in
         let none = append-nil base2 in
-        let whole = (small_block g.tree g.short number block block_is).whole in
+        let few = few_passed g.tree g.short number block block_is in
         let runs = stmt_runs block.body its known (omega arith) inside base2 [] t body_stands (block_good g.tree g.well number block block_is) after
-        (omega (arith, whole)) (omega arith) in
+        (omega (arith, few, others_few g.tree g.well g.short number block block_is)) (omega arith) in
         let ran = subst (λ cs. Executes its (on its cs inside t) [] behind_body (effect_of block.body (around its)) t) none runs in
         then_runs its (kept_on its [] behind_body) (return_on its [] is_function back) (on its base2 inside t) (effect_of block.body (around its))
         (λ _. result_of block.heading.result its.environment) t ((exact_around its).statements block.body) ran

@@ -1,8 +1,8 @@
 -- Where the variables of a block lie in its frame: each behind those before it, within the cells that the block has.
 use Rattle.code_generator.proofs.Words.{◌≡◌, ℕ, zero, suc, ◌+◌, ◌<◌, ◌≤◌, ◌⊎◌, inl, inr, ⊎_elim, List, [], ◌∷◌, length, take, Option, Some, None, refl, sym, ap}
-use Rattle.code_generator.proofs.Words.{◌∙◌, subst, arith, Bool, true, false, eq-eqb, if◌then◌else◌, nat_eq, nat_lt, not, slice_get, ◌&&◌, and_parts, cases_lt}
+use Rattle.code_generator.proofs.Words.{◌∙◌, subst, arith, Bool, true, false, eq-eqb, if◌then◌else◌, nat_eq, not, slice_get, ◌&&◌, and_parts, cases_lt}
 use Rattle.code_generator.proofs.Words.{eqb-true, false≢true, sum_by-cons, none-some, same_Some, slice_get_within, components_of, Form, cells_of, Block, Tree}
-use Rattle.code_generator.proofs.Words.{Variable, VariableKind, IsWellFormed, is_parameter_kind, is_variable_kind, Place, Home, block_depth, Scope, cells_where}
+use Rattle.code_generator.proofs.Words.{Variable, VariableKind, IsWellFormed, is_parameter_kind, is_variable_kind, Place, Home, Scope, cells_where}
 use Rattle.code_generator.proofs.Words.{is_parameter_of, other_cells, parameter_cells, slot_cells, variable_home}
 use Rattle.std.specs.Prelude.{filter, sum_by}
 use Rattle.std.proofs.lemmas.Bool.{cases_eq, ltb-false, or_parts}
@@ -12,7 +12,7 @@ use Rattle.typed_tree.specs.WellFormed.{variables_of}
 use Rattle.meaning.specs.Store.{place_eq}
 use Rattle.code_scheme.specs.Scopes.{home_of, home_or_none, homes_from, homes_of, is_other_of, offset, start_of}
 use Rattle.code_generator.specs.Known.{Known}
-use Rattle.code_scheme.specs.Large.{frame_cells, has_large_frame, is_large_block, is_too_large}
+use Rattle.code_scheme.specs.Large.{is_too_large, one_passes_too_much, passes_too_much}
 use Rattle.code_generator.proofs.Alike.{Activation, Extent, Lies}
 use Rattle.code_generator.proofs.Nesting.{well_block}
 use Rattle.code_generator.proofs.Places.{place_other, place_same}
@@ -87,31 +87,23 @@ module _ (tree : Tree) where
   abbrev variables : List Variable
   variables = tree.variables.items
 
-  -- ---- frames that are small enough
+  -- ---- the parameters of a block are few
 
-  each_frame : (number : ℕ) (blocks : List Block) (k m : ℕ) (block : Block) → number + k ≡ m → has_large_frame tree number blocks ≡ false
-      → slice_get blocks k ≡ Some block → is_large_block tree m block ≡ false
-  each_frame number [] k m block is fits at = absurd (none-some block at)
-  each_frame number (first ∷ blocks) zero m block is fits at =
+  each_passes : (number : ℕ) (blocks : List Block) (k m : ℕ) (block : Block) → number + k ≡ m → one_passes_too_much tree number blocks ≡ false
+      → slice_get blocks k ≡ Some block → passes_too_much tree m ≡ false
+  each_passes number [] k m block is fits at = absurd (none-some block at)
+  each_passes number (first ∷ blocks) zero m block is fits at =
       let n : number ≡ m = omega (arith, is) in
-      subst (λ b. is_large_block tree m b ≡ false) (same_Some first block at)
-      (subst (λ i. is_large_block tree i first ≡ false) n
-      (or_parts (is_large_block tree number first) (has_large_frame tree (suc number) blocks) fits).0)
-  each_frame number (first ∷ blocks) (suc k) m block is fits at =
-      each_frame (suc number) blocks k m block (omega (arith, is))
-      (or_parts (is_large_block tree number first) (has_large_frame tree (suc number) blocks) fits).1 at
+      subst (λ i. passes_too_much tree i ≡ false) n (or_parts (passes_too_much tree number) (one_passes_too_much tree (suc number) blocks) fits).0
+  each_passes number (first ∷ blocks) (suc k) m block is fits at =
+      each_passes (suc number) blocks k m block (omega (arith, is))
+      (or_parts (passes_too_much tree number) (one_passes_too_much tree (suc number) blocks) fits).1 at
 
-  -- the frame of a block is no larger than a machine, and its parameters are few
-  pub record IsSmall (number : ℕ) (block : Block) : Type 0 where
-    pub whole : 4 + parameter_cells tree number + other_cells tree number + block_depth block ≤ 16777216
-    pub parameters : parameter_cells tree number ≤ 65536
-
-  pub small_block : is_too_large tree ≡ false → (number : ℕ) (block : Block) → slice_get tree.blocks.items number ≡ Some block → IsSmall number block
-  small_block short number block at =
-      let fits = (or_parts _ (has_large_frame tree 0 tree.blocks.items) short).1 in
-      let both = or_parts (nat_lt 16777216 (frame_cells tree number block)) (nat_lt 65536 (parameter_cells tree number))
-      (each_frame 0 tree.blocks.items number number block (omega arith) fits at) in
-      record { whole = ltb-false 16777216 (frame_cells tree number block) both.0; parameters = ltb-false 65536 (parameter_cells tree number) both.1 }
+  pub few_passed : is_too_large tree ≡ false → (number : ℕ) (block : Block) → slice_get tree.blocks.items number ≡ Some block
+      → parameter_cells tree number ≤ 65536
+  few_passed short number block at =
+      let fits = (or_parts _ (one_passes_too_much tree 0 tree.blocks.items) short).1 in
+      ltb-false 65536 (parameter_cells tree number) (each_passes 0 tree.blocks.items number number block (omega arith) fits at)
 
   -- ---- where variables begin
 
@@ -369,7 +361,7 @@ module _ (tree : Tree) where
     pub start_near : (root : ℕ) (v : Variable) → slice_get variables root ≡ Some v → v.block ≡ number
         → (start_of tree root v + slot_cells tree.types v ≤ 16777215) × (offset (start_of tree root v) ≡ start_of tree root v)
     start_near root v at own =
-        let small = (small_block short number block block_is).parameters in
+        let small = few_passed short number block block_is in
         let few = others_few in
         let ends = variable_ends root v at in
         let front = ap (parameter_cells tree) own in

@@ -39,7 +39,7 @@ use Rattle.code_generator.specs.Tables.{point_table, site_table}
 use Rattle.code_generator.proofs.Acts.{framed}
 use Rattle.code_generator.proofs.Calling.{enters, full}
 use Rattle.code_generator.proofs.Calls.{calls_run}
-use Rattle.code_generator.proofs.Cells.{small_block}
+use Rattle.code_generator.proofs.Cells.{others_few}
 use Rattle.code_generator.proofs.Closing.{Closes, closing, count_grows, first_block, more_behind, most_repeats, repeats_within, take_short}
 use Rattle.code_generator.proofs.Explained.{as_much, as_much_more, end_over, explained_cut, explained_done, explained_full}
 use Rattle.code_generator.proofs.Explained.{explained_more, leads_before, leads_to, stops_end}
@@ -98,8 +98,9 @@ module _ (known : Known) (tree : Tree) (well : IsWellFormed tree) (short : is_to
         stands_front target 0 (block_code tree 0 block scope 0) behind
         (subst (Stands target 0) (ap (λ bs. blocks_code tree (routines_of tree) 0 bs 0) blocks_are) stands)
 
-    counts : (count variables ≡ variables) × (count depth ≡ depth)
-    counts = let whole = (small_block tree short 0 block block_is).whole in (omega (arith, whole), omega (arith, whole))
+    -- all variables are counted
+    variables_counted : count variables ≡ variables
+    variables_counted = omega (arith, others_few tree well short 0 block block_is)
 
     none : parameter_cells tree 0 ≡ 0
     none = started.none_here tree well block block_is
@@ -119,12 +120,13 @@ module _ (known : Known) (tree : Tree) (well : IsWellFormed tree) (short : is_to
       abbrev links : List Cell
       links = Number (pos 0) ∷ Number (pos 0) ∷ Undefined ∷ Undefined ∷ []
 
-      -- the frame doesn't fit
+      -- The frame doesn't fit: what is counted of the evaluations is all that they need, or as much as a machine has.
       refuses : cells < needed_cells → Stops target start (record { output = []; stop = stop.StoreFull })
       refuses h =
           stops_by target (instr.Enter (count variables) (count depth)) start stop.StoreFull
           (ap (slice_get target.code) (sym starts) ∙ own_stands.0.0)
-          (ap (with_frame (record start { place = 1 })) (full 0 4 cells links (count variables) (count depth) (omega (arith, h, none, counts.0, counts.1))))
+          (ap (with_frame (record start { place = 1 }))
+          (full 0 4 cells links (count variables) (count depth) (omega (arith, h, none, variables_counted, small))))
 
       needed : cells < needed_cells → cells < block_need tree 0
       needed h = omega (arith, h, block_within tree 0 block block_is)
@@ -155,11 +157,11 @@ module _ (known : Known) (tree : Tree) (well : IsWellFormed tree) (short : is_to
         comes_in : Comes target 1 start inside
         comes_in =
             let there : State = record start { frames = framed 0 needed_cells cells first_cells; place = 1 } in
-            let limit : 4 + count variables + count depth ≡ needed_cells = omega (arith, none, counts.0, counts.1) in
+            let limit : 4 + count variables + count depth ≡ needed_cells = omega (arith, none, variables_counted, small, fits) in
             let does : entered (count variables) (count depth) (framed 0 4 cells links) ≡ Some (framed 0 needed_cells cells first_cells) =
             enters 0 4 cells links (count variables) (count depth) (omega (arith, limit, fits))
             ∙ ap (λ n. Some (framed 0 n cells (links ++ replicate (count variables) Undefined))) limit
-            ∙ ap (λ n. Some (framed 0 needed_cells cells (links ++ replicate n Undefined))) counts.0 in
+            ∙ ap (λ n. Some (framed 0 needed_cells cells (links ++ replicate n Undefined))) variables_counted in
             let came = comes_by target (instr.Enter (count variables) (count depth)) start there
             (ap (slice_get target.code) (sym starts) ∙ own_stands.0.0) (ap (with_frame (record start { place = 1 })) does) in
             let second : target.to 1 ≡ 1 = own_stands.0.1 ∙ ap (λ n. n + 1) starts in
@@ -171,11 +173,10 @@ module _ (known : Known) (tree : Tree) (well : IsWellFormed tree) (short : is_to
 
         body_runs : Executes setting inside [] (1 + length body) does first
         body_runs =
-            let whole = (small_block tree short 0 block block_is).whole in
             stmt_runs block.body setting (calls_run (suc turns)) (omega arith) 1 first_cells [] first
             (stands_front target 1 body (instr.Stop ∷ []) own_stands.1) (block_good tree well 0 block block_is)
             (started.first_based known tree well short target sites_are points_are stands comes_back repeats_are_few input cells small block block_is fits
-            turns) (omega (arith, whole)) (omega arith)
+            turns) (omega (arith, none, others_few tree well short 0 block block_is)) (omega arith)
 
         means : meaning tree input turns ≡ ended (does first)
         means = ap (λ o. ended (meant.run_of tree (suc turns) o first)) block_is

@@ -18,7 +18,7 @@ use Rattle.typed_tree.specs.declared.site.SiteKind.{SiteKind}
 use Rattle.typed_tree.specs.declared.site.SiteKind.TheVariants as kind
 use Rattle.typed_tree.specs.Sites.{number_of}
 use Rattle.code_scheme.specs.Code.{program_code}
-use Rattle.code_scheme.specs.Large.{has_large_frame, is_too_large}
+use Rattle.code_scheme.specs.Large.{is_too_large, one_passes_too_much}
 use Rattle.code_scheme.proofs.Bounds.{program_in_bounds, program_names}
 use Rattle.code_generator.specs.Tables.{IsNumbered, has_room, in_plain_numbers, is_spelled, point_in_plain_numbers, point_table, site_table}
 
@@ -85,7 +85,7 @@ pub has_text : (tree : Tree) (code : Code) → code.instructions.items ≡ progr
 has_text tree code is sites_are points_are small fits well numbered =
     let sites = tree.sites.items in
     let points = tree.points.items in
-    let few = few_code (length (program_code tree)) _ (has_large_frame tree 0 tree.blocks.items) refl small in
+    let few = few_code (length (program_code tree)) _ (one_passes_too_much tree 0 tree.blocks.items) refl small in
     let room = and_parts (nat_le (length sites) 1000000) _ fits in
     let rooms = and_parts (nat_le (length points) 1000000) _ room.1 in
     let places = and_parts (list_all (λ (site : Site). is_spelled site.place) sites) _ rooms.1 in

@@ -54,6 +54,6 @@ has_room tree =
     && (nat_le (length tree.points.items) 1000000
     && (sites_are_spelled tree.sites.items && points_are_spelled tree.points.items))
 
--- a tree whose code would be too large: its instructions or its frames are, or its sites or points are
+-- a tree whose code would be too large: it has too many instructions or cells of parameters, or sites or points
 abbrev pub has_no_code : Tree → Bool
 has_no_code tree = is_too_large tree || not (has_room tree)

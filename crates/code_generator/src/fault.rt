@@ -14,7 +14,7 @@ pub enum GenFault {
     #[error("no memory")]
     Memory(Refused),
     /// G1: over 1,000,000 instructions, or a block with over 65,536 cells of parameters. No program text has what it is
-    /// told of too: a frame of over 16,777,216 cells, and sites or points for which a text of code has no room.
+    /// told of too: sites or points for which a text of code has no room.
     #[error("code that is too large")]
     TooLarge,
 }

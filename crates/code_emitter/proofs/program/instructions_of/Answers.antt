@@ -5,7 +5,7 @@ use Rattle.pcode_assembler.specs.Bounds.{in_bounds}
 use Rattle.code_scheme.specs.declared.frame.Frame.{Frame}
 use Rattle.code_scheme.specs.Code.{block_code}
 use Rattle.code_scheme.specs.Frames.{AreCounted, frame_at}
-use Rattle.code_scheme.specs.Large.{is_large_block}
+use Rattle.code_scheme.specs.Large.{passes_too_much}
 use Rattle.code_scheme.proofs.Bounds.{program_in_bounds}
 use Rattle.code_emitter.specs.Emitted.{Grows, IsKept, place_of}
 use Rattle.code_emitter.proofs.Blocks.{blocks_all, blocks_more, is_large_program, is_program, is_small_program, places_all}
@@ -26,7 +26,7 @@ loop-block-preserved c =
     let homes = c.as_slice-in-loop-block.ensures.value ∙ c.in_ok-homes.ensures (counted c.as_slice.result.now c.as_slice.ensures.value) in
     let scope = c.of_block-scope.ensures homes (counted c.as_slice-in-loop-block-2.result.now c.as_slice-in-loop-block-2.ensures.value) in
     let frame = c.frame_at-frame.ensures ∙ ap (λ fs. frame_at fs n) c.as_slice-in-loop-block-3.ensures.value ∙ counts n in
-    let emitted = subst (λ s. Grows (is_large_block tree n block) now after (block_code tree n block s (place_of now))) scope
+    let emitted = subst (λ s. Grows (passes_too_much tree n) now after (block_code tree n block s (place_of now))) scope
     (c.emit_block.ensures tree frame) in
     record {
       number = omega (arith, c.loop-block.invariant.number);
