@@ -7,6 +7,7 @@ import json
 import os
 import pty
 import re
+import shutil
 import subprocess
 import sys
 import tempfile
@@ -75,6 +76,15 @@ WRONG = (
     (["runs", 0, "results", 0, "locations", 0, "physicalLocation", "region", "startLine"], None),
     (["runs", 0, "results", 0, "locations", 0, "physicalLocation", "region", "startColumn"], 0),
 )
+# A program in C with an error that clang's analyser sees, and what the log of that has of the schema's properties.
+ERRING_C = b"int half(int number) {\n    int zero = 0;\n    return number / zero;\n}\n"
+OF_ANOTHER_WRITER = {
+    "sarifLog.$schema", "sarifLog.version", "sarifLog.runs", "run.tool", "run.results", "run.columnKind",
+    "tool.driver", "toolComponent.name", "toolComponent.rules", "reportingDescriptor.id",
+    "result.ruleId", "result.ruleIndex", "result.message", "result.locations", "message.text",
+    "location.physicalLocation", "physicalLocation.artifactLocation", "physicalLocation.region",
+    "artifactLocation.uri", "region.startLine", "region.startColumn", "region.endColumn",
+}
 SOURCES = {
     "open": b"program p(output);\nvar x: integer;\nbegin\n\twrite(1: 1); { \xc3\xa9 } write(x: 1)\nend.\n",
     "overflow": b"program p(input, output);\nvar x: integer;\nbegin\n  read(x); x := x * x;\n"
@@ -114,6 +124,19 @@ def sites_and_lines(path, folder):
     ran = subprocess.run([PROGRAM, "--keep-checks", path, code], timeout=SECONDS, **streams)
     sites = re.findall(r"^site (\d+) (\d+) (\d+)$", taken(folder, "code").decode(), re.M)
     return sites, re.findall(r"^(\d+):(\d+): possible error: (.*)$", ran.stderr.decode(), re.M)
+
+
+def known_part(value, known, definitions, names):
+    """A value of a log without the properties that the schema doesn't have; those that are left are put into names."""
+    name = known.get("$ref", "").rpartition("/")[2]
+    known = definitions.get(name, known)
+    if isinstance(value, list):
+        return [known_part(one, known["items"], definitions, names) for one in value]
+    if not isinstance(value, dict):
+        return value
+    left = {key: one for key, one in value.items() if key in known["properties"]}
+    names.update(f"{name}.{key}" for key in left)
+    return {key: known_part(one, known["properties"][key], definitions, names) for key, one in left.items()}
 
 
 class LastLine(RecordsCase):
@@ -269,6 +292,23 @@ class Sarif(RecordsCase):
         words = [python, "-c", CHECK_SCHEMA, SCHEMA]
         ran = subprocess.run(words, stdout=subprocess.PIPE, timeout=SECONDS, check=True)
         self.assertEqual(ran.stdout, b"")
+
+    def test_the_log_of_another_writer(self):
+        """A log that clang's analyser writes is as the schema has it, where it has the same properties."""
+        if not shutil.which("clang"):
+            self.skipTest("there is no clang")
+        put(self.folder, "half.c", ERRING_C)
+        words = ["clang", "--analyze", "-Xclang", "-analyzer-output=sarif", "-o", "half.sarif", "half.c"]
+        ran = subprocess.run(words, cwd=self.folder, stderr=subprocess.PIPE, timeout=SECONDS)
+        if ran.returncode or not os.path.exists(os.path.join(self.folder, "half.sarif")):
+            self.skipTest("this clang writes no log of SARIF")
+        with open(SCHEMA, encoding="utf-8") as file:
+            schema = json.load(file)
+        names = set()
+        log = known_part(json.loads(taken(self.folder, "half.sarif")), schema, schema["definitions"], names)
+        self.assertGreaterEqual(names, OF_ANOTHER_WRITER)
+        self.assertEqual([one["ruleId"] for one in log["runs"][0]["results"]], ["core.DivideZero"])
+        self.assertEqual(self.faults([log]), [[]])
 
     def test_levels(self):
         for words, levels in (

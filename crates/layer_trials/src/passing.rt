@@ -3,11 +3,18 @@
 ghost use Rattle.std.specs.Prelude.{◌≤◌, IfOk};
 
 use stack_machine::bytes::{Counted, Feed, Sink};
+use std::alloc::AllocError;
 use std::io;
 use std::io::ErrorKind;
 
 /// The longest piece that a run takes or offers.
 const LONGEST: usize = 4096;
+
+/// A piece by which 4 GiB are there soon: 1 MiB.
+const LONG: usize = 1048576;
+
+/// How many calls for such a piece: 4,096 of them are answered with the whole piece, and as many with a third of it.
+const CALLS: u64 = 16384;
 
 /// A reader and a writer that answers its calls in turn: with the whole piece, a part of it, no byte, and a failure.
 #[derive(Drop)]
@@ -137,4 +144,27 @@ fn a_writer_passes_each_call_on(rt: HostRuntime) {
     }
     // And one that takes no byte, which is no failure of an empty piece; a third of less than three bytes is none too.
     assert!(rt; writer.failures() == 8195 && writer.inner().calls == 16388);
+}
+
+// Bytes that are given or taken are counted in more than 32 bits, where they are counted.
+#[test]
+fn a_reader_passes_each_call_on_behind_4_gib(rt: HostRuntime) -> Result<(), AllocError> {
+    let mut reader = Counted::new(InTurn::new());
+    let mut piece = vec![in rt.alloc(); 0; LONG]?;
+    for _call in 0..CALLS {
+        assert!(rt; reads(&mut reader, piece.as_mut_slice()));
+    }
+    assert!(rt; reader.failures() == 4096 && reader.inner().calls == CALLS);
+    Ok(())
+}
+
+#[test]
+fn a_writer_passes_each_call_on_behind_4_gib(rt: HostRuntime) -> Result<(), AllocError> {
+    let mut writer = Counted::new(InTurn::new());
+    let piece = vec![in rt.alloc(); 0; LONG]?;
+    for _call in 0..CALLS {
+        assert!(rt; writes(&mut writer, piece.as_slice()));
+    }
+    assert!(rt; writer.failures() == 8192 && writer.inner().calls == CALLS);
+    Ok(())
 }
