@@ -29,27 +29,29 @@ def built_library(room):
     return library
 
 
-def run(library, words, folder, given=b"", refused=None, refused_from=None):
-    """Status, output and messages of a run with one allocation refused, or all from a number on; and its counts."""
+def run(library, words, folder, given=b"", refused=None, refused_from=None, output=subprocess.PIPE):
+    """Status, output and messages of a run with one allocation refused, or all from a number on; and its counts. The
+    output is none where it goes elsewhere."""
     reading, writing = os.pipe()
     environment = dict(os.environ, LD_PRELOAD=library, REFUSE_TELL=str(writing))
     for name, number in (("REFUSE", refused), ("REFUSE_FROM", refused_from)):
         if number is not None:
             environment[name] = str(number)
-    ran = subprocess.run(words, cwd=folder, env=environment, input=given, capture_output=True, pass_fds=[writing])
+    streams = {"input": given, "stdout": output, "stderr": subprocess.PIPE}
+    ran = subprocess.run(words, cwd=folder, env=environment, pass_fds=[writing], **streams)
     os.close(writing)
     told = os.read(reading, 64).split()
     os.close(reading)
-    return (ran.returncode, ran.stdout, ran.stderr), Counts(*map(int, told or (0, 0)))
+    return (ran.returncode, ran.stdout or b"", ran.stderr), Counts(*map(int, told or (0, 0)))
 
 
-def run_anew(library, words, folder, given=b"", **refused):
+def run_anew(library, words, folder, given=b"", **how):
     """The same with the files behind it, those of the certificate and of the code; none of them is there before."""
     for name in (SAVED, SAVED_CODE):
         path = os.path.join(folder, name)
         if os.path.exists(path):
             os.remove(path)
-    told, counts = run(library, words, folder, given, **refused)
+    told, counts = run(library, words, folder, given, **how)
     return (*told, saved_in(folder), saved_in(folder, SAVED_CODE)), counts
 
 
