@@ -94,9 +94,7 @@ impl From<CheckFault> for Fault {
     fn from(fault: CheckFault) -> Fault {
         match fault {
             CheckFault::Memory(refused) => Fault::Memory(refused),
-            CheckFault::TooLarge | CheckFault::Foreign | CheckFault::Broken { .. } => {
-                Fault::Check(fault)
-            }
+            CheckFault::Foreign | CheckFault::Broken { .. } => Fault::Check(fault),
         }
     }
 }
