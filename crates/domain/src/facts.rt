@@ -1,6 +1,7 @@
-ghost use Rattle.std.specs.Prelude.{◌≡◌, map};
+ghost use Rattle.std.specs.Prelude.{◌≡◌, length, map};
 ghost use Rattle.std.specs.Cmp.Lexicographic.{slice_cmp};
-ghost use Rattle.domain.specs.Facts.{bound_order, path_order, said_bound, said_path, said_step, step_order};
+ghost use Rattle.domain.specs.Facts.{bound_order, path_order, said_bound, said_path, said_span, said_spans, said_step};
+ghost use Rattle.domain.specs.Facts.{span_order, step_order};
 
 use std::cmp::Ordering;
 
@@ -26,6 +27,21 @@ pub struct Path {
 pub enum Bound {
     Number(i32),
     Plus { root: u32, number: i32 },
+}
+
+/// The numbers between two bounds.
+#[derive(Clone, Copy)]
+pub struct Span {
+    pub first: Bound,
+    pub last: Bound,
+}
+
+/// The spans in which the indexes of elements lie, the first index in the first.
+#[derive(Clone, Copy)]
+pub enum Spans {
+    /// What lies at a path is meant as a whole.
+    None,
+    One(Span),
 }
 
 impl Step {
@@ -65,6 +81,41 @@ impl Bound {
             (Bound::Plus { root: v, number: a }, Bound::Plus { root: w, number: b }) => {
                 v.cmp(w).then(a.cmp(b))
             }
+        }
+    }
+}
+
+impl Span {
+    /// How the span stands to another: by their first bounds, and then by their last ones.
+    fn compare(self, other: Span) -> Ordering
+        ensures { result ≡ span_order (said_span self) (said_span other) }
+    {
+        self.first
+            .compare(&other.first)
+            .then(self.last.compare(&other.last))
+    }
+}
+
+impl Spans {
+    /// How many there are.
+    pub fn count(self) -> u8
+        ensures { result ≡ length (said_spans self) }
+    {
+        match self {
+            Spans::None => 0,
+            Spans::One(_) => 1,
+        }
+    }
+
+    /// How they stand to others: the first ones that differ decide, and then which end first.
+    pub fn compare(self, other: Spans) -> Ordering
+        ensures { result ≡ slice_cmp span_order (said_spans self) (said_spans other) }
+    {
+        match (self, other) {
+            (Spans::None, Spans::None) => Ordering::Equal,
+            (Spans::None, Spans::One(_)) => Ordering::Less,
+            (Spans::One(_), Spans::None) => Ordering::Greater,
+            (Spans::One(one), Spans::One(another)) => one.compare(another),
         }
     }
 }
