@@ -1,6 +1,6 @@
 ghost use Rattle.std.specs.Prelude.{◌≡◌, IfOk};
 ghost use Rattle.std.specs.Result.{result_map_both};
-ghost use Rattle.domain.specs.Facts.{rank, subject_order};
+ghost use Rattle.domain.specs.Facts.{subject_order};
 ghost use Rattle.certificate.specs.Building.{word_fact, word_path};
 ghost use Rattle.certificate.specs.Contents.{said_fact};
 ghost use Rattle.certificate.specs.Lines as spec;
@@ -45,9 +45,7 @@ impl<'a> FactWords<'a> {
         match (self, other) {
             (FactWords::Range { path: p, .. }, FactWords::Range { path: q, .. }) => p.compare(q),
             (FactWords::Defined { path: p, spans: a }, FactWords::Defined { path: q, spans: b }) =>
-                a.count()
-                    .cmp(&b.count())
-                    .then(p.compare(q).then(a.compare(*b))),
+                { a.compare(*b, p.compare(q)) }
             (
                 FactWords::Order {
                     root: v,
@@ -60,18 +58,8 @@ impl<'a> FactWords<'a> {
                     ..
                 },
             ) => v.cmp(w).then(a.cmp(b)),
-            _ => self.rank().cmp(&other.rank()),
-        }
-    }
-
-    /// The place of the fact's form among the forms.
-    fn rank(&self) -> u8
-        ensures { result ≡ rank (word_fact self.now) }
-    {
-        match self {
-            FactWords::Range { .. } => 0,
-            FactWords::Defined { .. } => 1,
-            FactWords::Order { .. } => 2,
+            (FactWords::Range { .. }, _) | (_, FactWords::Order { .. }) => Ordering::Less,
+            (_, FactWords::Range { .. }) | (FactWords::Order { .. }, _) => Ordering::Greater,
         }
     }
 

@@ -1,5 +1,5 @@
 ghost use Rattle.std.specs.Prelude.{◌≡◌};
-ghost use Rattle.domain.specs.Facts.{rank, subject_order};
+ghost use Rattle.domain.specs.Facts.{subject_order};
 ghost use Rattle.certificate.specs.Contents.{said_fact};
 
 use domain::facts::{Path, Spans};
@@ -25,10 +25,9 @@ impl Fact {
     {
         match (self, other) {
             (Fact::Range { path: p, .. }, Fact::Range { path: q, .. }) => p.compare(q),
-            (Fact::Defined { path: p, spans: a }, Fact::Defined { path: q, spans: b }) => a
-                .count()
-                .cmp(&b.count())
-                .then(p.compare(q).then(a.compare(*b))),
+            (Fact::Defined { path: p, spans: a }, Fact::Defined { path: q, spans: b }) => {
+                a.compare(*b, p.compare(q))
+            }
             (
                 Fact::Order {
                     root: v,
@@ -41,18 +40,8 @@ impl Fact {
                     ..
                 },
             ) => v.cmp(w).then(a.cmp(b)),
-            _ => self.rank().cmp(&other.rank()),
-        }
-    }
-
-    /// The place of the fact's form among the forms.
-    fn rank(&self) -> u8
-        ensures { result ≡ rank (said_fact self.now) }
-    {
-        match self {
-            Fact::Range { .. } => 0,
-            Fact::Defined { .. } => 1,
-            Fact::Order { .. } => 2,
+            (Fact::Range { .. }, _) | (_, Fact::Order { .. }) => Ordering::Less,
+            (_, Fact::Range { .. }) | (Fact::Order { .. }, _) => Ordering::Greater,
         }
     }
 }

@@ -1,6 +1,7 @@
 ghost use Rattle.std.specs.Prelude.{◌≡◌, length, map};
 ghost use Rattle.std.specs.Cmp.Lexicographic.{slice_cmp};
-ghost use Rattle.domain.specs.Facts.{bound_order, path_order, said_bound, said_path, said_span, said_spans, said_step};
+ghost use Rattle.std.specs.Ordering.{nat_cmp, ordering_then};
+ghost use Rattle.domain.specs.Facts.{bound_order, path_order, said_bound, said_path, said_spans, said_step};
 ghost use Rattle.domain.specs.Facts.{span_order, step_order};
 
 use std::cmp::Ordering;
@@ -85,37 +86,21 @@ impl Bound {
     }
 }
 
-impl Span {
-    /// How the span stands to another: by their first bounds, and then by their last ones.
-    fn compare(self, other: Span) -> Ordering
-        ensures { result ≡ span_order (said_span self) (said_span other) }
-    {
-        self.first
-            .compare(&other.first)
-            .then(self.last.compare(&other.last))
-    }
-}
-
 impl Spans {
-    /// How many there are.
-    pub fn count(self) -> u8
-        ensures { result ≡ length (said_spans self) }
-    {
-        match self {
-            Spans::None => 0,
-            Spans::One(_) => 1,
-        }
-    }
-
-    /// How they stand to others: the first ones that differ decide, and then which end first.
-    pub fn compare(self, other: Spans) -> Ordering
-        ensures { result ≡ slice_cmp span_order (said_spans self) (said_spans other) }
+    /// How what is defined in the spans stands to what is in others: fewer spans come first, then paths decide, how
+    /// these stand, and then the first bounds that differ.
+    pub fn compare(self, other: Spans, paths: Ordering) -> Ordering
+        ensures { result ≡ ordering_then (nat_cmp (length (said_spans self)) (length (said_spans other)))
+            (ordering_then paths (slice_cmp span_order (said_spans self) (said_spans other))) }
     {
         match (self, other) {
-            (Spans::None, Spans::None) => Ordering::Equal,
+            (Spans::None, Spans::None) => paths,
             (Spans::None, Spans::One(_)) => Ordering::Less,
             (Spans::One(_), Spans::None) => Ordering::Greater,
-            (Spans::One(one), Spans::One(another)) => one.compare(another),
+            (Spans::One(one), Spans::One(another)) => {
+                let last = one.last.compare(&another.last);
+                paths.then(one.first.compare(&another.first).then(last))
+            }
         }
     }
 }
