@@ -51,8 +51,13 @@ fn chain<'a>(
     ensures { Makes expr_outline (chain_of level levels cursor.old.rest.now) result cursor.new }
 {
     let first = first_operand(alloc, cursor, levels, level)?;
-    let rest = links(alloc, cursor, levels, level)?;
-    build::chain(alloc, first, rest)
+    match links(alloc, cursor, levels, level) {
+        Ok(rest) => build::chain(alloc, first, rest),
+        Err(refusal) => {
+            drop(first);
+            Err(refusal)
+        }
+    }
 }
 
 /// The first operand of a chain of this level.
@@ -339,8 +344,13 @@ fn members<'a>(
         return Ok((Vec::new(alloc), Vec::new(alloc)));
     }
     let found = member_list(alloc, cursor, levels)?;
-    cursor.expect_symbol(Symbol::CloseBracket)?;
-    Ok(found)
+    match cursor.expect_symbol(Symbol::CloseBracket) {
+        Ok(_) => Ok(found),
+        Err(refusal) => {
+            drop(found);
+            Err(refusal)
+        }
+    }
 }
 
 #[cycle(expression)]
@@ -434,11 +444,16 @@ fn actual<'a>(
     let Some(_) = cursor.take_symbol(Symbol::Colon) else {
         return Ok(Actual { value, width: None });
     };
-    let width = index(alloc, cursor, levels)?;
-    Ok(Actual {
-        value,
-        width: Some(width),
-    })
+    match index(alloc, cursor, levels) {
+        Ok(width) => Ok(Actual {
+            value,
+            width: Some(width),
+        }),
+        Err(refusal) => {
+            drop(value);
+            Err(refusal)
+        }
+    }
 }
 
 /// Whether a selector is an index, behind which its brackets are open.
