@@ -181,6 +181,8 @@ fn named<'a>(alloc: Global, cursor: &mut Cursor<'_, 'a>, levels: u32) -> Result<
             indexes,
         });
     }
+    drop(selectors);
+    drop(indexes);
     let actuals = actuals(alloc, cursor, levels)?;
     if actuals.is_empty() {
         return Ok(Expr::Name(name));
