@@ -51,13 +51,8 @@ fn chain<'a>(
     ensures { Makes expr_outline (chain_of level levels cursor.old.rest.now) result cursor.new }
 {
     let first = first_operand(alloc, cursor, levels, level)?;
-    match links(alloc, cursor, levels, level) {
-        Ok(rest) => build::chain(alloc, first, rest),
-        Err(refusal) => {
-            drop(first);
-            Err(refusal)
-        }
-    }
+    let rest = links(alloc, cursor, levels, level);
+    build::chained(alloc, first, rest)
 }
 
 /// The first operand of a chain of this level.
@@ -104,12 +99,8 @@ fn links<'a>(
 {
     let mut links = Vec::new(alloc);
     while let Some((operator, place)) = cursor.take_operator(level) {
-        let operand = operand(alloc, cursor, levels, level)?;
-        links.push(Link {
-            operator,
-            place,
-            operand,
-        })?;
+        let operand = operand(alloc, cursor, levels, level);
+        build::put_link(&mut links, operator, place, operand)?;
     }
     Ok(links)
 }
@@ -446,16 +437,8 @@ fn actual<'a>(
     let Some(_) = cursor.take_symbol(Symbol::Colon) else {
         return Ok(Actual { value, width: None });
     };
-    match index(alloc, cursor, levels) {
-        Ok(width) => Ok(Actual {
-            value,
-            width: Some(width),
-        }),
-        Err(refusal) => {
-            drop(value);
-            Err(refusal)
-        }
-    }
+    let width = index(alloc, cursor, levels);
+    build::wide_actual(value, width)
 }
 
 /// Whether a selector is an index, behind which its brackets are open.
