@@ -1,50 +1,22 @@
 -- The operators of a chain that were read so far, each with the operand behind it.
-use Rattle.std.proofs.Common.{◌≡◌, ℕ, ◌<◌, List, [], ◌∷◌, ◌++◌, length, map, Some, None, Result, Ok, Err, sym, ap, subst, ◌∙◌, append-nil}
+use Rattle.std.proofs.Common.{◌≡◌, ℕ, ◌<◌, List, [], ◌∷◌, ◌++◌, length, map, Some, None, Ok, Err, sym, ap, subst, ◌∙◌, append-nil}
 use Rattle.std.proofs.lemmas.List.{map-append}
 use Rattle.place.specs.declared.Place.{Place}
 use Rattle.lexer.specs.declared.token.Token.{Token}
-use Rattle.memory.specs.Refused.{the_refusal}
-use Rattle.syntax_tree.specs.declared.Expr.{Expr}
 use Rattle.syntax_tree.specs.declared.Link.{Link}
 use Rattle.syntax_tree.specs.declared.Operator.{Operator}
 use Rattle.reading.specs.declared.refusal.Refusal.{Refusal}
-use Rattle.reading.specs.declared.refusal.Refusal.TheVariants.{Memory}
 use Rattle.reading.specs.Outline as form
 use Rattle.reading.specs.Outline.{Outline}
-use Rattle.reading.specs.Reading.{Outcome, and_then, choose, loop, more, ends, pure, ◌>>=◌, operator_taken}
+use Rattle.reading.specs.Reading.{and_then, choose, loop, more, ends, pure, ◌>>=◌, operator_taken}
 use Rattle.reading.specs.Expressions.{link_turn}
-use Rattle.reading.specs.Trees.{expr_outline, link_outline}
+use Rattle.reading.specs.Trees.{link_outline}
 use Rattle.reading.proofs.Uses.{NeverMore, factor_no_more, link_uses, term_no_more}
-use Rattle.token_cursor.specs.Cursor.{Makes}
 use Rattle.token_cursor.specs.Level.{level_number}
-use Rattle.token_cursor.specs.declared.cursor.Cursor.{Cursor}
 use Rattle.token_cursor.specs.declared.operator.Level.{Level}
 use Rattle.token_cursor.specs.declared.operator.Level.TheVariants.{Sum, Product}
 use Rattle.token_cursor.proofs.Turns.{Turns, turns_go, turns_end, turns_stop}
-use Rattle.expression_parser.specs.Built.{PutsLink}
 use Rattle.expression_parser.specs.Levels.{links, operand, turn_of}
-
--- a link that was put behind others, and the operand that was read for it
-pub record WasLink (build : Outline → Outline) (outcome : Outcome Outline) (new : Cursor) (before after : List Link) : Type 0 where
-  pub operand : Expr
-  pub link : Link
-  pub read : outcome ≡ Ok (expr_outline operand, new.rest.now)
-  pub behind : after ≡ before ++ link ∷ []
-  pub looks : link_outline link ≡ build (expr_outline operand)
-
-module _ (build : Outline → Outline) (outcome : Outcome Outline) (new : Cursor) (before after : List Link) where
-  pub was_link : (found : Result Expr Refusal) → Makes expr_outline outcome found new → PutsLink build before found (Ok tt) after
-      → WasLink build outcome new before after
-  was_link (Ok operand) read (link, behind, looks) =
-      record { operand = operand; link = link; read = read; behind = behind; looks = looks }
-  was_link (Err why) read p = absurd p
-
-  pub no_link : (found : Result Expr Refusal) (why : Refusal) → Makes expr_outline outcome found new → PutsLink build before found (Err why) after
-      → (¬ (why ≡ Memory the_refusal)) → outcome ≡ Err (why, new.rest.now)
-  no_link (Ok operand) why h p m = let e : ◌≡◌ {A = Result Expr Refusal} (Ok operand) (Err why) = p m in absurd cc
-  no_link (Err other) why h p m =
-      let e : ◌≡◌ {A = Result Expr Refusal} (Err other) (Err why) = p m in let is : other ≡ why = cc in
-      h (λ o. m (sym is ∙ o)) ∙ ap (λ w. Err (w, new.rest.now)) is
 
 operand_no_more : (level : Level) (levels : ℕ) → NeverMore (operand level levels)
 operand_no_more Sum levels = term_no_more levels

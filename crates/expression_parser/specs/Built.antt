@@ -1,6 +1,6 @@
 -- How forms look that are built of parts which were read.
 -- This doesn't say how a form is outlined: see Outline and Trees in reading.
-use Rattle.std.specs.Prelude.{◌≡◌, false, List, [], ◌∷◌, ◌++◌, map, Result, Ok, Err, MatchResult}
+use Rattle.std.specs.Prelude.{◌≡◌, false, List, map, Result, MatchResult}
 use Rattle.std.specs.declared.alloc.Global.{Global}
 use Rattle.std.specs.declared.vec.Vec.{Vec}
 use Rattle.memory.specs.Refused.{the_refusal}
@@ -26,35 +26,13 @@ Builds build found result =
     (outcome : Outcome Outline) (at : Cursor) → Makes expr_outline outcome found at
     → Makes expr_outline (and_then outcome (λ o. pure (build o))) result at
 
--- so is an actual parameter, round its width
-abbrev pub BuildsActual : (Outline → Outline) → Result Expr Refusal → Result Actual Refusal → Type 0
-BuildsActual build found result =
-    (outcome : Outcome Outline) (at : Cursor) → Makes expr_outline outcome found at
-    → Makes actual_outline (and_then outcome (λ o. pure (build o))) result at
-
--- the operators of a chain, each with the operand behind it
+-- the operators of a chain, each with the operand behind it, and the actual parameters of a call
 abbrev pub links_outlines : Vec Link Global → List Outline
 links_outlines links = map link_outline links.items
 
 abbrev pub links_turns : Vec Link Global → List Outline × Unit {0}
 links_turns links = (links_outlines links, tt)
 
--- a chain of its first operand, whatever made the operators behind that: it is made as they were, and then so built of
--- them
-abbrev pub BuildsChain : (List Outline → Outline) → Result (Vec Link Global) Refusal → Result Expr Refusal → Type 0
-BuildsChain build found result =
-    (outcome : Outcome (List Outline × Unit {0})) (at : Cursor) → Makes links_turns outcome found at
-    → Makes expr_outline (and_then outcome (λ turns. pure (build turns.0))) result at
-
--- a link stands behind the others, built of what was read; or it isn't there, or memory ran out
-abbrev pub PutsLink : (Outline → Outline) → List Link → Result Expr Refusal → Result (Unit {0}) Refusal → List Link
-    → Type 0
-PutsLink build before (Ok operand) (Ok done) after =
-    (link : Link) × (after ≡ before ++ link ∷ []) × (link_outline link ≡ build (expr_outline operand))
-PutsLink build before (Err why) (Ok done) after = ⊥
-PutsLink build before found (Err why) after = (¬ (why ≡ Memory the_refusal)) → found ≡ Err why
-
--- the actual parameters of a call
 abbrev pub actuals_outlines : Vec Actual Global → List Outline
 actuals_outlines actuals = map actual_outline actuals.items
 

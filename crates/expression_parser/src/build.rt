@@ -1,11 +1,11 @@
 ghost use Rattle.reading.specs.Outline as form;
 ghost use Rattle.reading.specs.Trees.{expr_outline};
-ghost use Rattle.expression_parser.specs.Built.{Builds, BuildsActual, BuildsChain, IsBuilt, PutsLink, links_outlines};
+ghost use Rattle.expression_parser.specs.Built.{Builds, IsBuilt, links_outlines};
 
 use place::Place;
 use reading::refusal::Refusal;
 use std::alloc::Global;
-use syntax_tree::{Actual, Expr, Link, Operator, RelationalOperator, Sign};
+use syntax_tree::{Expr, Link, RelationalOperator, Sign};
 use token_cursor::kept::boxed;
 
 /// A relation, by its left operand and what was read behind its operator.
@@ -28,26 +28,13 @@ pub(crate) fn relation<'a>(
     })
 }
 
-/// A first operand, by what was read behind it: the operators of a chain.
-pub(crate) fn chained<'a>(
-    alloc: Global,
-    first: Expr<'a>,
-    rest: Result<Vec<Link<'a>>, Refusal>,
-) -> Result<Expr<'a>, Refusal>
-    ensures { BuildsChain (form.chain (expr_outline first.entry)) rest.entry result }
-{
-    match rest {
-        Ok(rest) => chain(alloc, first, rest),
-        Err(refusal) => {
-            drop(first);
-            Err(refusal)
-        }
-    }
-}
-
 /// A first operand, alone or with the operators behind it.
 #[tactic(auto, using(crate::proofs::Built::built_expressions))]
-fn chain<'a>(alloc: Global, first: Expr<'a>, rest: Vec<Link<'a>>) -> Result<Expr<'a>, Refusal>
+pub(crate) fn chain<'a>(
+    alloc: Global,
+    first: Expr<'a>,
+    rest: Vec<Link<'a>>,
+) -> Result<Expr<'a>, Refusal>
     ensures { IsBuilt (form.chain (expr_outline first.entry) (links_outlines rest.entry)) result }
 {
     if rest.is_empty() {
@@ -55,24 +42,6 @@ fn chain<'a>(alloc: Global, first: Expr<'a>, rest: Vec<Link<'a>>) -> Result<Expr
     }
     let first = Box::new(alloc, first)?;
     Ok(Expr::Chain { first, rest })
-}
-
-/// Puts an operator behind the others of a chain, with the operand that was read behind it, if one was.
-pub(crate) fn put_link<'a>(
-    links: &mut Vec<Link<'a>>,
-    operator: Operator,
-    place: Place,
-    operand: Result<Expr<'a>, Refusal>,
-) -> Result<(), Refusal>
-    ensures { PutsLink (form.link operator place) links.old.items operand.entry result links.new.items }
-{
-    let operand = operand?;
-    links.push(Link {
-        operator,
-        place,
-        operand,
-    })?;
-    Ok(())
 }
 
 /// A sign, and the term that was read behind it.
@@ -110,23 +79,4 @@ pub(crate) fn parenthesized<'a>(
 {
     let inner = boxed(alloc, inner)?;
     Ok(Expr::Parenthesized { open, inner })
-}
-
-/// An actual parameter, by its value and the width that was read behind that.
-pub(crate) fn wide_actual<'a>(
-    value: Expr<'a>,
-    width: Result<Expr<'a>, Refusal>,
-) -> Result<Actual<'a>, Refusal>
-    ensures { BuildsActual (form.wide_actual (expr_outline value.entry)) width.entry result }
-{
-    match width {
-        Ok(width) => Ok(Actual {
-            value,
-            width: Some(width),
-        }),
-        Err(refusal) => {
-            drop(value);
-            Err(refusal)
-        }
-    }
 }

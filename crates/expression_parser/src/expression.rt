@@ -51,8 +51,13 @@ fn chain<'a>(
     ensures { Makes expr_outline (chain_of level levels cursor.old.rest.now) result cursor.new }
 {
     let first = first_operand(alloc, cursor, levels, level)?;
-    let rest = links(alloc, cursor, levels, level);
-    build::chained(alloc, first, rest)
+    match links(alloc, cursor, levels, level) {
+        Ok(rest) => build::chain(alloc, first, rest),
+        Err(refusal) => {
+            drop(first);
+            Err(refusal)
+        }
+    }
 }
 
 /// The first operand of a chain of this level.
@@ -99,8 +104,12 @@ fn links<'a>(
 {
     let mut links = Vec::new(alloc);
     while let Some((operator, place)) = cursor.take_operator(level) {
-        let operand = operand(alloc, cursor, levels, level);
-        build::put_link(&mut links, operator, place, operand)?;
+        let operand = operand(alloc, cursor, levels, level)?;
+        links.push(Link {
+            operator,
+            place,
+            operand,
+        })?;
     }
     Ok(links)
 }
@@ -437,8 +446,16 @@ fn actual<'a>(
     let Some(_) = cursor.take_symbol(Symbol::Colon) else {
         return Ok(Actual { value, width: None });
     };
-    let width = index(alloc, cursor, levels);
-    build::wide_actual(value, width)
+    match index(alloc, cursor, levels) {
+        Ok(width) => Ok(Actual {
+            value,
+            width: Some(width),
+        }),
+        Err(refusal) => {
+            drop(value);
+            Err(refusal)
+        }
+    }
 }
 
 /// Whether a selector is an index, behind which its brackets are open.

@@ -7,7 +7,6 @@ use Rattle.reading.specs.Expressions as spec
 use Rattle.reading.specs.Expressions.{expression_below, factor_below}
 use Rattle.reading.specs.Lexemes.{identifier}
 use Rattle.reading.specs.Reading.{separated}
-use Rattle.reading.specs.Outline as form
 use Rattle.reading.specs.Outline.{has_items}
 use Rattle.reading.specs.Trees.{actual_outline, expr_outline}
 use Rattle.reading.proofs.Uses.{actual_no_more, below_no_more, member_no_more}
@@ -17,8 +16,8 @@ use Rattle.token_cursor.proofs.Turns.{list_ends, list_goes, parts_fewer, parts_s
 use Rattle.expression_parser.specs.Built.{actuals_outlines, selectors_outlines}
 use Rattle.expression_parser.specs.Levels as level_spec
 use Rattle.expression_parser.specs.Selecting.{is_index, Selects}
-use Rattle.expression_parser.proofs.Built.{built_call, built_component, built_name}
-use Rattle.expression_parser.proofs.Chains.{link_fewer, links_end, links_go, links_stop, no_link, was_link}
+use Rattle.expression_parser.proofs.Built.{built_call, built_component, built_link, built_name}
+use Rattle.expression_parser.proofs.Chains.{link_fewer, links_end, links_go, links_stop}
 use Rattle.expression_parser.proofs.Members.{was_member, no_member, members_go, members_fewer, members_end, members_stop}
 use Rattle.expression_parser.proofs.Named.{alone_named, call_named, component_named, factor_named, empty_items, filled_items, has_mapped, has_rows, no_rows}
 use Rattle.expression_parser.proofs.Parentheses.{parenthesized_is}
@@ -46,35 +45,26 @@ parenthesized-returns t c =
 
 -- ---- chains
 
-pub links-returns-in_err-put_link : goal.links-returns-in_err-put_link
-links-returns-in_err-put_link t c =
-    let why = c.in_err-put_link.field-0.0 in
-    let here = c.loop-operator.cursor.rest.now in
-    let mid = c.take_operator.new.self.rest.now in
-    let stops : ¬ (why ≡ Memory the_refusal)
-    → level_spec.links c.args.level c.args.levels c.args.cursor.now.rest.now ≡ Err (why, c.operand-operand.new.cursor.rest.now) =
-    λ other. links_stop c.args.level c.args.levels here c.in-Some.operator c.in-Some.place mid (cc) c.args.cursor.now.rest.now
-    c.loop-operator.links.items c.loop-operator.invariant why c.operand-operand.new.cursor.rest.now
-    (no_link (form.link c.in-Some.operator c.in-Some.place) (level_spec.operand c.args.level c.args.levels mid) c.operand-operand.new.cursor
-    c.loop-operator.links.items c.put_link.new.links.items c.operand-operand.result why c.operand-operand.ensures c.in_err-put_link.ensures other) in
+pub links-returns-in_err-operand : goal.links-returns-in_err-operand
+links-returns-in_err-operand t c =
+    let stops : ¬ (c.in_err-operand.field-0.0 ≡ Memory the_refusal)
+    → level_spec.links c.args.level c.args.levels c.args.cursor.now.rest.now ≡ Err (c.in_err-operand.field-0.0, c.operand.new.cursor.rest.now) =
+    λ no. links_stop c.args.level c.args.levels c.loop-operator.cursor.rest.now c.in-Some.operator c.in-Some.place c.take_operator.new.self.rest.now
+    (cc) c.args.cursor.now.rest.now c.loop-operator.links.items c.loop-operator.invariant c.in_err-operand.field-0.0 c.operand.new.cursor.rest.now
+    (c.in_err-operand.ensures no) in
     search rules
 
 pub links-loop-operator-smaller : goal.links-loop-operator-smaller
 links-loop-operator-smaller t c =
-    let mid = c.take_operator.new.self.rest.now in
-    let was = was_link (form.link c.in-Some.operator c.in-Some.place) (level_spec.operand c.args.level c.args.levels mid) c.operand-operand.new.cursor
-    c.loop-operator.links.items c.put_link.new.links.items c.operand-operand.result c.operand-operand.ensures c.in_ok-put_link.ensures in
-    link_fewer c.args.level c.args.levels c.loop-operator.cursor.rest.now c.in-Some.operator c.in-Some.place mid (cc) (expr_outline was.operand)
-    c.operand-operand.new.cursor.rest.now was.read
+    link_fewer c.args.level c.args.levels c.loop-operator.cursor.rest.now c.in-Some.operator c.in-Some.place c.take_operator.new.self.rest.now
+    (cc) (expr_outline c.in_ok-operand.operand) c.operand.new.cursor.rest.now c.in_ok-operand.ensures
 
 pub links-loop-operator-preserved : goal.links-loop-operator-preserved
 links-loop-operator-preserved t c =
-    let mid = c.take_operator.new.self.rest.now in
-    let was = was_link (form.link c.in-Some.operator c.in-Some.place) (level_spec.operand c.args.level c.args.levels mid) c.operand-operand.new.cursor
-    c.loop-operator.links.items c.put_link.new.links.items c.operand-operand.result c.operand-operand.ensures c.in_ok-put_link.ensures in
-    links_go c.args.level c.args.levels c.loop-operator.cursor.rest.now c.in-Some.operator c.in-Some.place mid (cc) c.args.cursor.now.rest.now
-    c.loop-operator.links.items c.loop-operator.invariant (expr_outline was.operand) c.operand-operand.new.cursor.rest.now was.read was.link
-    c.put_link.new.links.items was.behind was.looks
+    links_go c.args.level c.args.levels c.loop-operator.cursor.rest.now c.in-Some.operator c.in-Some.place c.take_operator.new.self.rest.now
+    (cc) c.args.cursor.now.rest.now c.loop-operator.links.items c.loop-operator.invariant
+    (expr_outline c.in_ok-operand.operand) c.operand.new.cursor.rest.now c.in_ok-operand.ensures
+    _ c.push.new.self.items c.in_ok-push.ensures.items (built_link _)
 
 pub links-returns : goal.links-returns
 links-returns t c =
