@@ -7,6 +7,7 @@ ghost use Rattle.token_cursor.specs.Cursor.{Makes, Takes};
 ghost use Rattle.parser.specs.Blocks.{block_below, may_take_forward};
 ghost use Rattle.parser.specs.Built.{compound_outlines};
 
+use crate::beside::made_beside;
 use crate::headings::{heading, takes_directive};
 use crate::lists::{block_part, is_next};
 use crate::statement::compound;
@@ -94,7 +95,8 @@ fn routine<'a>(
     let heading = heading(alloc, cursor)?;
     let directive = takes_directive(&heading);
     let block = body(alloc, cursor, levels, directive);
-    let block = cursor.followed_by(block, Kind::Symbol(Symbol::Semicolon))?;
+    let block = cursor.followed_by(block, Kind::Symbol(Symbol::Semicolon));
+    let block = made_beside!(block, heading);
     Ok(Routine { heading, block })
 }
 

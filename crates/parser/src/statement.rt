@@ -6,7 +6,7 @@ ghost use Rattle.token_cursor.specs.Rows.{MakesRows};
 ghost use Rattle.parser.specs.Built.{alternative_outline, body_outline, case_outlines, compound_outlines};
 ghost use Rattle.parser.specs.Built.{control_lexeme, initial_outline, records_outlines, statements_outlines};
 
-use crate::beside::beside;
+use crate::beside::{beside, made_beside};
 use crate::constants::row;
 use crate::lists::behind_arm;
 use expression_parser::expression::{actuals, expression, selectors};
@@ -32,7 +32,7 @@ pub(crate) fn compound<'a>(
 {
     cursor.expect_word(Word::Begin)?;
     let statements = statements(alloc, cursor, levels)?;
-    let end = cursor.expect_word(Word::End)?;
+    let end = made_beside!(cursor.expect_word(Word::End), statements);
     Ok((statements, end))
 }
 
@@ -90,7 +90,7 @@ fn simple<'a>(alloc: Global, cursor: &mut Cursor<'_, 'a>, levels: u32) -> Result
     let name = cursor.expect_name()?;
     let (selectors, indexes) = selectors(alloc, cursor, levels)?;
     if let Some(becomes) = cursor.take_symbol(Symbol::Becomes) {
-        let value = expression(alloc, cursor, levels)?;
+        let value = made_beside!(expression(alloc, cursor, levels), selectors, indexes);
         return Ok(Stmt::Assign {
             name,
             selectors,
@@ -102,6 +102,8 @@ fn simple<'a>(alloc: Global, cursor: &mut Cursor<'_, 'a>, levels: u32) -> Result
     if !selectors.is_empty() {
         return Err(Refusal::NoProgram);
     }
+    drop(selectors);
+    drop(indexes);
     let actuals = actuals(alloc, cursor, levels)?;
     Ok(Stmt::Call { name, actuals })
 }
@@ -119,8 +121,8 @@ fn conditional<'a>(
 {
     let place = cursor.expect_word(Word::If)?;
     let condition = guard(alloc, cursor, levels, Word::Then)?;
-    let consequence = body(alloc, cursor, levels)?;
-    let alternative = alternative(alloc, cursor, levels)?;
+    let consequence = made_beside!(body(alloc, cursor, levels), condition);
+    let alternative = made_beside!(alternative(alloc, cursor, levels), condition, consequence);
     Ok(Stmt::If {
         place,
         condition,
@@ -159,7 +161,7 @@ fn while_loop<'a>(
 {
     let place = cursor.expect_word(Word::While)?;
     let condition = guard(alloc, cursor, levels, Word::Do)?;
-    let body = body(alloc, cursor, levels)?;
+    let body = made_beside!(body(alloc, cursor, levels), condition);
     Ok(Stmt::While {
         place,
         condition,
@@ -181,7 +183,7 @@ fn repeat_loop<'a>(
     let place = cursor.expect_word(Word::Repeat)?;
     let statements = statements(alloc, cursor, levels);
     let statements = cursor.followed_by(statements, Kind::Word(Word::Until))?;
-    let condition = expression(alloc, cursor, levels)?;
+    let condition = made_beside!(expression(alloc, cursor, levels), statements);
     Ok(Stmt::Repeat {
         place,
         statements,
@@ -201,8 +203,8 @@ fn for_loop<'a>(
 {
     let (place, variable) = control(cursor)?;
     let (first, direction) = initial(alloc, cursor, levels)?;
-    let last = guard(alloc, cursor, levels, Word::Do)?;
-    let body = body(alloc, cursor, levels)?;
+    let last = made_beside!(guard(alloc, cursor, levels, Word::Do), first);
+    let body = made_beside!(body(alloc, cursor, levels), first, last);
     Ok(Stmt::For {
         place,
         variable,
@@ -245,7 +247,7 @@ fn case_of<'a>(alloc: Global, cursor: &mut Cursor<'_, 'a>, levels: u32) -> Resul
 {
     let place = cursor.expect_word(Word::Case)?;
     let index = guard(alloc, cursor, levels, Word::Of)?;
-    let (constants, arms, semicolon) = arms(alloc, cursor, levels)?;
+    let (constants, arms, semicolon) = made_beside!(arms(alloc, cursor, levels), index);
     Ok(Stmt::Case {
         place,
         index,
@@ -291,7 +293,7 @@ fn with_fields<'a>(
     let place = cursor.expect_word(Word::With)?;
     let records = records(alloc, cursor, levels);
     let records = cursor.followed_by(records, Kind::Word(Word::Do))?;
-    let body = body(alloc, cursor, levels)?;
+    let body = made_beside!(body(alloc, cursor, levels), records);
     Ok(Stmt::With {
         place,
         records,
