@@ -1,5 +1,5 @@
 ghost use Rattle.std.specs.Prelude.{◌≡◌, ◌<◌, true, IfOk, map, vec_len, vec_capacity};
-ghost use Rattle.syntax_tree.specs.declared.Block.TheViews.{out-Routine};
+ghost use Rattle.syntax_tree.specs.declared.Block.TheViews.{out-Block, out-Routine};
 ghost use Rattle.typed_tree.specs.Kinds.{is_held_stmt};
 ghost use Rattle.typing.specs.Names.{heading_names};
 ghost use Rattle.typing.specs.Outcomes.{Takes};
@@ -34,8 +34,22 @@ pub(crate) fn body(
     ensures held_blocks { are_held_made made.old.items ≡ true → are_held_made made.new.items ≡ true }
 {
     declare(typer, written)?;
-    routines(typer, made, &written.routines)?;
-    statement_part(typer, made, &written.statements)
+    routines(typer, made, routines_of(written))?;
+    statement_part(typer, made, statements_of(written))
+}
+
+// The procedures and functions of a block.
+fn routines_of<'b, 'a>(block: &'b syntax::Block<'a>) -> &'b [Routine<'a>]
+    ensures { result.now ≡ (out-Block block.now).routines.items }
+{
+    &block.routines
+}
+
+// The statements of its compound statement.
+fn statements_of<'b, 'a>(block: &'b syntax::Block<'a>) -> &'b [syntax::Stmt<'a>]
+    ensures { result.now ≡ (out-Block block.now).statements.items }
+{
+    &block.statements
 }
 
 // The statements of a block, once each routine came that was declared with the directive forward. There is room for the

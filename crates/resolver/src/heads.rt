@@ -9,6 +9,7 @@ ghost use Rattle.typing.specs.Steps.{enter_as};
 ghost use Rattle.expression_resolver.specs.Values.{AreTestedAlike, tested_as};
 ghost use Rattle.resolver.specs.Made.{MakesBound, MakesStmt, MakesCaseHead, MakesCondition, MakesIfHead, MakesForHead};
 
+use crate::owned::made_beside;
 use expression_resolver::{expression, first_place, fitted};
 use place::Place;
 use syntax_tree as syntax;
@@ -51,7 +52,8 @@ pub(crate) fn condition(typer: &mut Typer, written: &syntax::Expr) -> Result<Exp
     ensures made { MakesCondition (spec.condition (expression written.now) typer.old) result typer.new }
     ensures held { IfOk result (λ made. is_ordinal_expr made ≡ true) }
 {
-    expression(typer, written, None)?.of(TypeTable::BOOLEAN, first_place(written))
+    let place = first_place(written);
+    expression(typer, written, None)?.of(TypeTable::BOOLEAN, place)
 }
 
 /// A for as far as its `do` (6.8.3.9).
@@ -79,7 +81,7 @@ pub(crate) fn for_head(
     typer.may_control(variable.place, control)?;
     let (number, loop_number) = typer.enter_loop()?;
     let first = bound(typer, type_id, first)?;
-    let last = bound(typer, type_id, last)?;
+    let last = made_beside!(bound(typer, type_id, last), first);
     Ok(ForHead {
         number,
         loop_number,
@@ -115,8 +117,9 @@ pub(crate) fn case_head(
 {
     let site = typer.site(SiteKind::Case, place)?;
     let number = typer.enter()?;
+    let place = first_place(index);
     let made = expression(typer, index, None)?;
-    let type_id = ordinal_of(typer.types(), first_place(index), made.typed())?;
+    let type_id = made_beside!(ordinal_of(typer.types(), place, made.typed()), made);
     let head = CaseHead {
         number,
         site,

@@ -306,8 +306,10 @@ fn case_arms(
     let mut arms = Vec::with_capacity(typer.alloc, written.len())?;
     for (index, arm) in written.iter().enumerate() {
         if let Some(row) = constants.get(index) {
-            rows.push_reserved(constant_row(typer, type_id, row, &mut seen)?);
-            arms.push_reserved(statement(typer, arm)?);
+            let row = made_beside!(constant_row(typer, type_id, row, &mut seen), arms);
+            rows.push_reserved(row);
+            let arm = made_beside!(statement(typer, arm), arms);
+            arms.push_reserved(arm);
         }
     }
     Ok((rows, arms))

@@ -21,14 +21,14 @@ body-routines-requires t c =
     let new = c.declare.new.typer in
     let known = routines_stay (block_declarations b) (declarations_keep b) tt [] old new c.in_ok-declare.ensures (out-Block b).routines.items
     (routines_known old.regions b c.requires.known) in
-    (search (rules, the_lemmas), subst (λ l. AreKnownRoutines l new.regions) (sym c.deref.ensures.value) known)
+    (search (rules, the_lemmas), subst (λ l. AreKnownRoutines l new.regions) (sym c.routines_of.ensures) known)
 
 -- its routines stop
 pub body-returns-in_err-routines-clause-made : goal.body-returns-in_err-routines-clause-made
 body-returns-in_err-routines-clause-made t c =
     let b = c.args.written.now in
     let why = c.in_err-routines.field-0.0 in
-    let refused = subst (λ l. IsFault (each (λ (r : TypedRoutine). r.typing) (map typed_routine l) c.declare.new.typer) why) c.deref.ensures.value
+    let refused = subst (λ l. IsFault (each (λ (r : TypedRoutine). r.typing) (map typed_routine l) c.declare.new.typer) why) c.routines_of.ensures
     c.in_err-routines.ensures.made in
     let stops = routines_stop b c.args.typer.now c.declare.new.typer c.in_ok-declare.ensures why refused in
     search (rules, stops)
@@ -40,11 +40,11 @@ body-returns-clause-made t c =
     let own = c.in_ok-routines.ensures.made in
     let there = c.routines.new.typer in
     let passes = subst (λ l. each (λ (r : TypedRoutine). r.typing) (map typed_routine l) c.declare.new.typer ≡ Ok (after tt (look_made own.0) there))
-    c.deref.ensures.value own.2 in
+    c.routines_of.ensures own.2 in
     body_answers b c.args.typer.now c.declare.new.typer there c.statement_part.new.typer c.args.made.now.items c.statement_part.new.made.items own.0
     (c.statement_part.ensures.same ∙ own.1)
     c.in_ok-declare.ensures passes c.statement_part.result
-    (subst (λ l. MakesStmt (statement_part l there) c.statement_part.result c.statement_part.new.typer) c.deref-2.ensures.value c.statement_part.ensures.made)
+    (subst (λ l. MakesStmt (statement_part l there) c.statement_part.result c.statement_part.new.typer) c.statements_of.ensures c.statement_part.ensures.made)
 
 -- no block is made there
 pub body-returns-clause-held_blocks : goal.body-returns-clause-held_blocks

@@ -13,7 +13,7 @@ use Rattle.resolver.proofs.CaseArms.{stands_at, arm_goes, arm_made, arm_left_out
 use Rattle.resolver.proofs.HeldStatements.{held_more}
 use Rattle.resolver.proofs.MadeRows.{row_goes_on, row_stops}
 use Rattle.resolver.proofs.statements.+statements.Goals as goal
-use Rattle.resolver.proofs.statements.+statements.Goals.{case_arms-in-Some+in_ok-constant_row+in_ok-statement, case_arms-in_default}
+use Rattle.resolver.proofs.statements.+statements.Goals.{case_arms-in-Some+in-Ok+in-Ok-statement, case_arms-in_default}
 
 -- the next statement is made
 pub statements-loop-next-preserved : goal.statements-loop-next-preserved
@@ -52,8 +52,8 @@ boxed-returns-clause-held t c =
 -- ---- the arms of a case
 
 -- the constants before the next one are refused
-pub case_arms-returns-in_err-constant_row-clause-made : goal.case_arms-returns-in_err-constant_row-clause-made
-case_arms-returns-in_err-constant_row-clause-made t c =
+pub case_arms-returns-in-Err-clause-made : goal.case_arms-returns-in-Err-clause-made
+case_arms-returns-in-Err-clause-made t c =
     let here = c.loop-index in
     let there : here.index < length c.args.constants.now = grind (arith, nat_tests, c.in-Some.ensures.lookup.0) in
     let goes = arm_goes c.args.type_id c.args.constants.now c.args.written.now c.args.typer.now here.index here.rows.items here.seen.keys here.arms.items
@@ -62,8 +62,8 @@ case_arms-returns-in_err-constant_row-clause-made t c =
     search (rules, goes)
 
 -- the next one is refused
-pub case_arms-returns-in_err-statement-clause-made : goal.case_arms-returns-in_err-statement-clause-made
-case_arms-returns-in_err-statement-clause-made t c =
+pub case_arms-returns-in-Err-statement-clause-made : goal.case_arms-returns-in-Err-statement-clause-made
+case_arms-returns-in-Err-statement-clause-made t c =
     let here = c.loop-index in
     let there : here.index < length c.args.constants.now = grind (arith, nat_tests, c.in-Some.ensures.lookup.0) in
     let goes = arm_goes c.args.type_id c.args.constants.now c.args.written.now c.args.typer.now here.index here.rows.items here.seen.keys here.arms.items
@@ -94,20 +94,20 @@ case_arms-loop-index-preserved t c =
     let left = here.invariant.from in
     let new = c.match-get in
     elim c.match-get.branch [
-      | case_arms-in-Some+in_ok-constant_row+in_ok-statement w ↦
+      | case_arms-in-Some+in-Ok+in-Ok-statement w ↦
           let there : i < length constants = grind (arith, nat_tests, w.in-Some.ensures.lookup.0) in
-          let row = w.in_ok-constant_row in
-          let made = w.in_ok-statement in
+          let row = w.in-Ok in
+          let made = w.in-Ok-statement in
           record {
             from =
                 arm_made type_id constants written old i rows seen arms now left w.in-Some.row.now c.index-written-index.result
                 (stands_at constants i _ w.in-Some.row.now there w.in-Some.ensures.lookup.1) c.loop-index-test.true c.index-written-index.is
-                row.field-0 w.constant_row.new.typer (ap (λ l. constant_row type_id seen [] l now) (sym w.deref.ensures.value) ∙ row.ensures.0)
-                made.field-0 new.typer new.rows.items new.seen.keys new.arms.items (ap (λ v. v.items) w.rows-is ∙ w.push_reserved.ensures.items)
+                row.made w.constant_row.new.typer (ap (λ l. constant_row type_id seen [] l now) (sym w.deref.ensures.value) ∙ row.ensures.0)
+                made.made new.typer new.rows.items new.seen.keys new.arms.items (ap (λ v. v.items) w.rows-is ∙ w.push_reserved.ensures.items)
                 (ap (λ s. s.keys) w.seen-is ∙ row.ensures.1) (ap (λ v. v.items) w.arms-is ∙ w.push_reserved-in-Some.ensures.items)
-                (made.ensures.made ∙ ap (λ n. Ok (after tt (look_stmt made.field-0) n)) (sym w.typer-is));
+                (made.ensures.made ∙ ap (λ n. Ok (after tt (look_stmt made.made) n)) (sym w.typer-is));
             held =
-                held_more is_held_stmt arms made.field-0 new.arms.items (ap (λ v. v.items) w.arms-is ∙ w.push_reserved-in-Some.ensures.items)
+                held_more is_held_stmt arms made.made new.arms.items (ap (λ v. v.items) w.arms-is ∙ w.push_reserved-in-Some.ensures.items)
                 here.invariant.held made.ensures.held;
             rows = omega (arith, ap vec_len w.rows-is, w.push_reserved.ensures.len);
             rows_room = omega (arith, ap vec_capacity w.rows-is, w.push_reserved.ensures.capacity);
