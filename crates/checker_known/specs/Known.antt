@@ -22,6 +22,10 @@ pub record Core : Type 0 where
 abbrev pub core : Known → Core
 core known = record { rows = known.rows.items; held = known.held.items; is_dead = known.is_dead }
 
+-- no list by variables was refused its growth
+abbrev pub AllGrew : Known → Type 0
+AllGrew known = known.resting.refused ≡ None
+
 -- as the definitions see it
 abbrev pub viewed : Core → Facts
 viewed core = record { rows = map said_row core.rows; held = map said_held core.held }

@@ -63,7 +63,7 @@ impl Known {
     ghost use Rattle.std.specs.Prelude.{slice_set};
     ghost use Rattle.std.specs.List.{insert, remove};
     ghost use Rattle.checker_state.specs.State.{row_at};
-    ghost use Rattle.checker_known.specs.Known.{core, made, viewed};
+    ghost use Rattle.checker_known.specs.Known.{AllGrew, core, made, viewed};
     ghost use Rattle.checker_known.specs.View.{said_row};
 
     /// What is known of a row.
@@ -79,9 +79,10 @@ impl Known {
     /// Makes a change.
     ///
     /// # Errors
-    /// No memory for it.
+    /// No memory for it, or a list was refused its growth, here or before.
     pub fn make(&mut self, change: &Change) -> Result<(), AllocError>
-        ensures { OnOk result (core self.new ≡ made change.now (core self.old)) }
+        ensures makes { OnOk result (core self.new ≡ made change.now (core self.old)) }
+        ensures told { OnOk result (AllGrew self.old × AllGrew self.new) }
     {
         match change {
             Change::Row { row, now, .. } => self.set_row(*row, *now),
@@ -95,7 +96,8 @@ impl Known {
     }
 
     fn set_row(&mut self, row: usize, now: Row)
-        ensures { core self.new ≡ record (core self.old) { rows = slice_set self.old.rows.items row now } }
+        ensures sets { core self.new ≡ record (core self.old) { rows = slice_set self.old.rows.items row now } }
+        ensures told { AllGrew self.new → AllGrew self.old }
     {
         if row < self.rows.len() {
             self.rows[row] = now;
@@ -103,8 +105,9 @@ impl Known {
     }
 
     fn insert(&mut self, place: usize, held: Held) -> Result<(), AllocFailed<Held>>
-        ensures { OnOk result
+        ensures inserts { OnOk result
             (core self.new ≡ record (core self.old) { held = insert self.old.held.items place held }) }
+        ensures told { AllGrew self.new → AllGrew self.old }
     {
         let place = place.min(self.held.len());
         let was = wrong_at(&self.held, place);
@@ -121,7 +124,8 @@ impl Known {
     }
 
     fn remove(&mut self, place: usize)
-        ensures { core self.new ≡ record (core self.old) { held = remove self.old.held.items place } }
+        ensures removes { core self.new ≡ record (core self.old) { held = remove self.old.held.items place } }
+        ensures told { AllGrew self.new → AllGrew self.old }
     {
         if place < self.held.len() {
             let was = wrong_around(&self.held, place);
@@ -133,7 +137,8 @@ impl Known {
     }
 
     fn replace(&mut self, place: usize, now: Held)
-        ensures { core self.new ≡ record (core self.old) { held = slice_set self.old.held.items place now } }
+        ensures replaces { core self.new ≡ record (core self.old) { held = slice_set self.old.held.items place now } }
+        ensures told { AllGrew self.new → AllGrew self.old }
     {
         if place < self.held.len() {
             let was = wrong_around(&self.held, place);

@@ -1,6 +1,6 @@
 ghost use Rattle.std.specs.Prelude.{◌≡◌, IfOk, IfSome, map};
 ghost use Rattle.checker_state.specs.View.{said_held};
-ghost use Rattle.checker_known.specs.Known.{core};
+ghost use Rattle.checker_known.specs.Known.{AllGrew, core};
 ghost use Rattle.checker_known.specs.Resting.{AreChanging, AreFound, HasAllAt, HaveAll, IsFound, listed};
 
 use crate::halves::{Test, edge};
@@ -23,6 +23,7 @@ impl Known {
         ensures same { core self.new ≡ core self.old }
         ensures places { IfOk result (λ found. IfSome found
             (λ places. AreChanging how (map said_held self.old.held.items) places.items)) }
+        ensures told { AllGrew self.new → AllGrew self.old }
     {
         if self.disorder > 0 || !self.resting.is_whole {
             return Ok(None);
@@ -84,7 +85,8 @@ impl Known {
     // Lists by a variable what stands at places alone.
     fn relist(&mut self, alloc: Global, root: usize, places: &[usize]) -> Result<(), AllocError>
         requires { HaveAll (listed self.old.resting.lists.items root) (map said_held self.old.held.items) places.now }
-        ensures { core self.new ≡ core self.old }
+        ensures same { core self.new ≡ core self.old }
+        ensures told { AllGrew self.new → AllGrew self.old }
     {
         let list = self.held_at(alloc, places)?;
         if let Some(found) = self.resting.lists.get_mut(root) {

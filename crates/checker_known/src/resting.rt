@@ -1,4 +1,4 @@
-ghost use Rattle.std.specs.Prelude.{◌≡◌, ◌||◌, IfOk, OnOk, Some, length, map, nat_eq, true};
+ghost use Rattle.std.specs.Prelude.{◌≡◌, ◌||◌, ◌<◌, IfOk, None, OnOk, Some, length, map, nat_eq, true};
 ghost use Rattle.checker_state.specs.Changes.{bound_rests_on, ordered, rests_on, span_rests_on};
 ghost use Rattle.checker_state.specs.State.{Stretched};
 ghost use Rattle.checker_state.specs.View.{said_bound, said_held, said_order, said_span, said_stretch};
@@ -49,7 +49,8 @@ impl Resting {
 
     /// Lists what is held from here on.
     pub(crate) fn list(&mut self, held: &Held)
-        ensures { self.new.is_whole ≡ true → ListsMore (said_held held.now) self.old self.new }
+        ensures lists { self.new.is_whole ≡ true → ListsMore (said_held held.now) self.old self.new }
+        ensures told { self.new.refused ≡ None → self.old.refused ≡ None }
     {
         match held {
             Held::Stretched(stretch) => self.list_stretch(stretch, held),
@@ -57,8 +58,10 @@ impl Resting {
         }
     }
 
-    /// Whether all could be listed.
-    pub(crate) fn end(&self) -> Result<(), AllocError> {
+    /// Whether no list was refused its growth.
+    pub(crate) fn end(&self) -> Result<(), AllocError>
+        ensures { OnOk result (self.now.refused ≡ None) }
+    {
         match self.refused {
             Some(refused) => Err(refused.into()),
             None => Ok(()),
@@ -67,8 +70,9 @@ impl Resting {
 
     // Lists something by the variables of a stretch.
     fn list_stretch(&mut self, stretch: &Stretch, held: &Held)
-        ensures { self.new.is_whole ≡ true → Lists (λ root. rests_on root (Stretched (said_stretch stretch.now)))
+        ensures lists { self.new.is_whole ≡ true → Lists (λ root. rests_on root (Stretched (said_stretch stretch.now)))
             (said_held held.now) self.old self.new }
+        ensures told { self.new.refused ≡ None → self.old.refused ≡ None }
     {
         self.list_span(stretch.span, held);
         if let Some(inner) = stretch.inner {
@@ -77,16 +81,18 @@ impl Resting {
     }
 
     fn list_span(&mut self, span: Span, held: &Held)
-        ensures { self.new.is_whole ≡ true → Lists (λ root. span_rests_on root (said_span span)) (said_held held.now)
-            self.old self.new }
+        ensures lists { self.new.is_whole ≡ true → Lists (λ root. span_rests_on root (said_span span))
+            (said_held held.now) self.old self.new }
+        ensures told { self.new.refused ≡ None → self.old.refused ≡ None }
     {
         self.list_bound(span.first, held);
         self.list_bound(span.last, held);
     }
 
     fn list_bound(&mut self, bound: Bound, held: &Held)
-        ensures { self.new.is_whole ≡ true → Lists (λ root. bound_rests_on root (said_bound bound)) (said_held held.now)
-            self.old self.new }
+        ensures lists { self.new.is_whole ≡ true → Lists (λ root. bound_rests_on root (said_bound bound))
+            (said_held held.now) self.old self.new }
+        ensures told { self.new.refused ≡ None → self.old.refused ≡ None }
     {
         if let Some(root) = bound.root {
             self.list_at(root, held);
@@ -99,6 +105,7 @@ impl Resting {
             || nat_eq root order.now.other) (said_held held.now) self.old self.new }
         ensures number { self.new.is_whole ≡ true → ordered order.now.root order.now.other order.now.number
             ≡ Some (said_order order.now) }
+        ensures told { self.new.refused ≡ None → self.old.refused ≡ None }
     {
         match Order::new(order.root, order.other, i64::from(order.number)) {
             None => self.is_whole = false,
@@ -109,9 +116,13 @@ impl Resting {
         }
     }
 
+    // Lists something by a variable. If that has a list and this isn't refused its growth, nothing is left out.
     fn list_at(&mut self, root: u32, held: &Held)
-        ensures { self.new.is_whole ≡ true → Lists (λ other. nat_eq other root) (said_held held.now)
+        ensures lists { self.new.is_whole ≡ true → Lists (λ other. nat_eq other root) (said_held held.now)
             self.old self.new }
+        ensures told { self.new.refused ≡ None → self.old.refused ≡ None }
+        ensures grown { self.new.refused ≡ None → root < length self.old.lists.items
+            → self.new.is_whole ≡ self.old.is_whole }
     {
         match self.lists.get_mut(root as usize) {
             None => self.is_whole = false,

@@ -35,7 +35,7 @@ invariant_of-self c =
           c.in-Ok.ensures.items c.knot_at.ensures refl c.knots_around.ensures.first c.knots_around.ensures.next;
       all_listed =
           whole-more (said_held c.args.held) (said_all known.held.items) (said_all c.insert.new.self.items) known.resting c.list.new.self
-          known.all_listed c.list.ensures
+          known.all_listed c.list.ensures.lists
           (λ other has.
           among-inserted (said_all known.held.items) c.min-place.result (said_held c.args.held) other
           (subst (λ (all : List Held). Contains all other)

@@ -39,7 +39,7 @@ invariant_of-self c =
           c.knots_around.ensures.first c.knots_around.ensures.next;
       all_listed =
           whole-more (said_held c.args.now) (said_all known.held.items) (said_all (set known.held.items c.args.place c.args.now)) known.resting
-          c.list.new.self known.all_listed c.list.ensures
+          c.list.new.self known.all_listed c.list.ensures.lists
           (λ other has.
           among-set (said_all known.held.items) c.args.place (said_held c.args.now) other
           (rw length-map (omega (arith, c.if-place-len.true, c.len.ensures)))

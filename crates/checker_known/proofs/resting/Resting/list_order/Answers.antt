@@ -7,7 +7,7 @@ use Rattle.checker_known.proofs.resting.Resting.list_order.Goals as goal
 pub returns-in-Some-clause-lists : goal.returns-in-Some-clause-lists
 returns-in-Some-clause-lists c =
     lists-both (λ root. nat_eq root c.args.order.now.root) (λ root. nat_eq root c.args.order.now.other) (said_held c.args.held.now) _ _ _
-    c.list_at.ensures c.list_at-in-Some.ensures
+    c.list_at.ensures.lists c.list_at-in-Some.ensures.lists
 
 pub returns-in-Some-clause-number : goal.returns-in-Some-clause-number
 returns-in-Some-clause-number c = λ whole.
