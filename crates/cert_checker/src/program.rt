@@ -30,10 +30,10 @@ pub(crate) struct Found {
 }
 
 /// Walks over a program, block by block.
-pub(crate) fn program(
+pub(crate) fn program<'a>(
     alloc: Global,
-    rows: &Rows,
-    certificate: &Certificate,
+    rows: &'a Rows<'a>,
+    certificate: &'a Certificate,
 ) -> Result<Found, CheckFault>
     ensures sites { IfOk result (λ found. found.open_ids.items ≡ (program_walk rows.now certificate.now).open_ids) }
     ensures visits { IfOk result (λ found. found.visits ≡ length (entries_of rows.now)) }
