@@ -12,12 +12,6 @@ MADE = re.compile(
     r"\b(?:Ok|Err|Some)\(AllocError\)|\bAllocError\s*\.|[=(]\s*AllocError\s*[;,)]|\breturn AllocError\b"
     r"|^\s*AllocError\s*,?$|\{[^{}]*: AllocError\b[^{}]*\}|\bAllocFailed\s*\{"
 )
-# Tables too large for the numbers that the checker has for them: no memory holds them, and no well formed tree has any.
-TOO_LARGE = {
-    "crates/cert_checker/src/blocks.rt",
-    "crates/cert_checker/src/visits.rt",
-    "crates/checker_loops/src/starts.rt",
-}
 # The refusals that come without an error of the allocator: that of clap, and that of the system.
 TOLD = re.compile(r"\bErrorKind::OutOfMemory =>")
 
@@ -33,7 +27,7 @@ def code_lines():
 class Evidence(unittest.TestCase):
     def test_no_refusal_is_made(self):
         made = [place for place, line in code_lines() if MADE.search(line) and not TOLD.search(line)]
-        self.assertEqual([place.partition(":")[0] for place in made], sorted(TOO_LARGE))
+        self.assertEqual(made, [])
 
     def test_the_system_s_refusals_are_taken_in_two_places(self):
         self.assertEqual(sum(bool(TOLD.search(line)) for _, line in code_lines()), 2)

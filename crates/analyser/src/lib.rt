@@ -73,11 +73,16 @@ pub fn find(alloc: Global, tree: &Tree) -> Result<Found, AllocError>
         callers,
         is_recursive,
     } = Plan::of(alloc, &rows)?;
+    // The checker takes no program of more variables than have numbers, whatever is found of it.
+    let declared = match all_declared(alloc, tree)? {
+        Some(declared) => declared,
+        None => Vec::new(alloc),
+    };
     let course = Course {
         ladders,
         callers,
         is_recursive,
-        declared: all_declared(alloc, tree)?,
+        declared,
     };
     let proposed = Proposed {
         entries,

@@ -26,6 +26,7 @@ pub mod SoundForms
 pub mod SoundBlocks
 pub mod ClaimsKnown
 pub mod SoundProgram
+pub mod Huge
 pub mod PlainLists
 pub mod PlainExpressions
 pub mod PlainStatements

@@ -199,7 +199,8 @@ shifted f a (suc n) =
     ∙ sym (sum_by-cons g a (range_with_len (suc a) n)) ∙ sym (ap (sum_by g) (range-more a n))
 
 -- over all blocks by their numbers
-over-blocks : (of_number : ℕ → Option Block → ℕ) (own : Block → ℕ) → ((k : ℕ) (block : Block) → of_number k (Some block) ≡ own block) → (blocks : List Block)
+pub over-blocks : (of_number : ℕ → Option Block → ℕ) (own : Block → ℕ) → ((k : ℕ) (block : Block) → of_number k (Some block) ≡ own block)
+    → (blocks : List Block)
     → sum_by (λ k. of_number k (slice_get blocks k)) (range_with_len 0 (length blocks)) ≡ sum_by own blocks
 over-blocks of_number own same [] = refl
 over-blocks of_number own same (block ∷ blocks) =

@@ -19,11 +19,12 @@ use Rattle.checker_loops.specs.Starts.{all_declared}
 use Rattle.checker_loops.specs.BlockView.{said_section}
 use Rattle.checker_expressions.specs.declared.fault.Breach.{Breach}
 use Rattle.checker_expressions.specs.declared.fault.CheckFault.{CheckFault}
-use Rattle.checker_expressions.specs.declared.fault.CheckFault.TheVariants.{Memory, Foreign, Broken}
+use Rattle.checker_expressions.specs.declared.fault.CheckFault.TheVariants.{Memory, TooLarge, Foreign, Broken}
 use Rattle.checker_expressions.specs.declared.grounds.Grounds.{Grounds}
 use Rattle.checker_expressions.specs.View.{first_of, state_of}
-use Rattle.checker_expressions.specs.Walk.{Context, IsBreachOf, first_breach}
+use Rattle.checker_expressions.specs.Walk.{Context, first_breach}
 use Rattle.cert_checker.specs.declared.walk.Walk.{Walk}
+use Rattle.cert_checker.specs.Promise.{IsGivenUpFor}
 use Rattle.cert_checker.specs.Walk.{blocks_walk, first_context, program_walk}
 use Rattle.cert_checker.specs.View.{AreDeclared, AreGrounds, AreLoops, IsBegun, IsFaultOf, IsUnbroken, KnowsTypes, Noted, Passes, context_of}
 use Rattle.cert_checker.proofs.Steps.{noted-as}
@@ -96,12 +97,13 @@ module _ (tree : Tree) (certificate : Certificate) {state : Kept} {grounds : Gro
         no-breach (program_walk tree certificate).broken (sym (broken-first unbroken.is_long) ∙ unbroken.unbroken)
 
     -- why there is no verdict
-    program-fault : (fault : CheckFault) → IsFaultOf new fault → IsBreachOf (program_walk tree certificate) fault
+    program-fault : (fault : CheckFault) → IsFaultOf new fault → IsGivenUpFor tree certificate fault
     program-fault (Memory _) is = tt
+    program-fault TooLarge is = absurd is
     program-fault Foreign is = is
     program-fault (Broken rule place) is = sym (broken-first is.0) ∙ is.1
 
     pub program-given_up : {A : Type 0} (P : A → Type 0) (result : Result A CheckFault) (fault : CheckFault)
-        → IsErr result × IsErrAnd result (λ e. e ≡ fault) → IsFaultOf new fault → MatchResult result P (IsBreachOf (program_walk tree certificate))
+        → IsErr result × IsErrAnd result (λ e. e ≡ fault) → IsFaultOf new fault → MatchResult result P (IsGivenUpFor tree certificate)
     program-given_up P (Ok a) fault left is = absurd left.1
-    program-given_up P (Err other) fault left is = subst (IsBreachOf (program_walk tree certificate)) (sym left.1) (program-fault fault is)
+    program-given_up P (Err other) fault left is = subst (IsGivenUpFor tree certificate) (sym left.1) (program-fault fault is)

@@ -1,7 +1,7 @@
 -- What a verdict promises: the list of open sites, and of the runs of a program that they err at its open sites alone
 -- (ISO 7185:1990, 3.1), and that at each entry the states of the walk hold; and why a certificate gets no verdict. It
 -- does not say that an open site can err.
-use Rattle.std.specs.Prelude.{◌≡◌, ◌≢◌, ℕ, ◌≤◌, ◌⊎◌, true, false, List, [], ◌==◌, Contains, Some, filter}
+use Rattle.std.specs.Prelude.{◌≡◌, ◌≢◌, ℕ, ◌≤◌, ◌^◌, ◌⊎◌, true, false, List, [], ◌==◌, Contains, Some, filter, length}
 use Rattle.std.specs.Prelude.{slice_get}
 use Rattle.std.specs.List.{list_any}
 use Rattle.certificate.specs.declared.Certificate.{Certificate}
@@ -16,10 +16,11 @@ use Rattle.meaning.specs.Meaning.{Argument, calls_of, environment_of, run, meani
 use Rattle.meaning.specs.Store.{Environment, Place, stored}
 use Rattle.checker_state.specs.State.{State}
 use Rattle.checker_expressions.specs.declared.fault.CheckFault.{CheckFault}
-use Rattle.checker_expressions.specs.declared.fault.CheckFault.TheVariants.{Memory, Foreign, Broken}
+use Rattle.checker_expressions.specs.declared.fault.CheckFault.TheVariants.{Memory, TooLarge, Foreign, Broken}
 use Rattle.checker_calls.specs.Names.{is_known}
 use Rattle.checker_expressions.specs.Visits.{moment_of, visits_of}
-use Rattle.checker_expressions.specs.Walk.{Context, IsBreachOf, Linked, numbers_of}
+use Rattle.checker_expressions.specs.Walk.{Context, Linked, first_breach, numbers_of}
+use Rattle.cert_checker.specs.Visits.{most_counted}
 use Rattle.cert_checker.specs.Walk.{block_walk, program_walk}
 use Rattle.checker_state.specs.Holds.{Separate, StateHolds}
 use Rattle.checker_rows.specs.Rows.{Parts, all_parts}
@@ -43,13 +44,30 @@ pub record Valid (tree : Tree) (certificate : Certificate) (open_sites : List Si
   pub unbroken : (program_walk tree certificate).broken ≡ []
   pub open_are : open_sites ≡ open_in (program_walk tree certificate).open_ids tree.sites.items
 
--- why a certificate is refused: it names what the program doesn't have, or what may not be named; or the
--- walk by it breaks a rule; or for want of memory
+-- a program has more variables or blocks than 32 bits number, or more entries than the checker counts; no well formed
+-- tree has so many variables or blocks, and no typed program so many entries
+abbrev pub IsHuge : Tree → Type 0
+IsHuge tree =
+    (2 ^ 32 ≤ length tree.variables.items)
+    ⊎ ((2 ^ 32 ≤ length tree.blocks.items) ⊎ (most_counted ≤ length (entries_of tree)))
+
+-- why the walk by a certificate is given up: for the first rule that it breaks, or the program is too large, or for
+-- want of memory
+abbrev pub IsGivenUpFor : Tree → Certificate → CheckFault → Type 0
+IsGivenUpFor tree certificate (Memory _) = Unit {0}
+IsGivenUpFor tree certificate TooLarge = IsHuge tree
+IsGivenUpFor tree certificate Foreign = ⊥
+IsGivenUpFor tree certificate (Broken rule place) =
+    first_breach (program_walk tree certificate).broken ≡ Some (record { rule = rule; place = place })
+
+-- why a certificate is refused: it names what the program doesn't have, or what may not be named; or the walk by it is
+-- given up
 abbrev pub IsRefusedFor : Tree → Certificate → CheckFault → Type 0
 IsRefusedFor tree certificate (Memory _) = Unit {0}
+IsRefusedFor tree certificate TooLarge = IsHuge tree
 IsRefusedFor tree certificate Foreign = is_known tree certificate ≡ false
 IsRefusedFor tree certificate (Broken rule place) =
-    (is_known tree certificate ≡ true) × IsBreachOf (program_walk tree certificate) (Broken rule place)
+    (is_known tree certificate ≡ true) × IsGivenUpFor tree certificate (Broken rule place)
 
 -- each error of a run is at a site of the table that is open
 abbrev pub ClosedNeverErr : Tree → List Site → Type 0

@@ -28,7 +28,7 @@ use Rattle.checker_loops.specs.Sections.{all_block_claims, all_pairs, block_clai
 use Rattle.checker_loops.specs.Starts.{all_declared, block_start}
 use Rattle.checker_loops.specs.BlockView.{said_section}
 use Rattle.checker_expressions.specs.declared.fault.CheckFault.{CheckFault}
-use Rattle.checker_expressions.specs.declared.fault.CheckFault.TheVariants.{Memory, Foreign, Broken}
+use Rattle.checker_expressions.specs.declared.fault.CheckFault.TheVariants.{Memory, TooLarge, Foreign, Broken}
 use Rattle.checker_expressions.specs.declared.flow.Flow.{Flow}
 use Rattle.checker_expressions.specs.declared.grounds.Grounds.{Grounds}
 use Rattle.checker_expressions.specs.declared.fault.Rule.TheVariants.{Exit, LoopEntry, LoopTurn}
@@ -231,6 +231,7 @@ pub record IsUnbroken (walk : Walk) (ids : List ℕ) : Type 0 where
 -- why the checker gives no verdict
 abbrev pub IsFaultOf : Walk → CheckFault → Type 0
 IsFaultOf walk (Memory _) = Unit {0}
+IsFaultOf walk TooLarge = ⊥
 IsFaultOf walk Foreign = ⊥
 IsFaultOf walk (Broken rule place) =
     (walk.flow.state.refused ≡ None) × (walk.flow.broken ≡ Some (record { rule = rule; place = place }))

@@ -1,4 +1,4 @@
-ghost use Rattle.std.specs.Prelude.{◌≡◌, ◌≤◌, ◌^◌, IsOk, MatchResult, length, map};
+ghost use Rattle.std.specs.Prelude.{◌≡◌, ◌≤◌, ◌^◌, IsSome, MatchOption, length, map};
 ghost use Rattle.typed_tree.specs.Entries.{entries_of, entries_of_block};
 ghost use Rattle.typed_tree.specs.WellFormed.{IsWellFormed};
 ghost use Rattle.checker_state.specs.State.{of_types};
@@ -19,7 +19,6 @@ use checker_loops::sections::block_claims_at;
 use checker_loops::starts::begin_block;
 use checker_state::Bound;
 use place::Place;
-use std::alloc::AllocError;
 use std::mem;
 use typed_tree::tree::{Block, FunctionResult, Tree};
 
@@ -106,15 +105,15 @@ fn ask_exit(flow: &mut Flow, number: u32, end: Place)
     flow.ask(given, Rule::Exit, end);
 }
 
-/// How many blocks there are, if 32 bits hold their number, as of each well formed tree: more fit no memory.
-pub(crate) fn block_count(tree: &Tree) -> Result<u32, AllocError>
-    ensures count { MatchResult result (λ count. count ≡ length tree.now.blocks.items)
-        (λ _. 2 ^ 32 ≤ length tree.now.blocks.items) }
-    ensures few { IsWellFormed tree.now → IsOk result }
+/// How many blocks there are, if 32 bits hold their number, as of each well formed tree.
+pub(crate) fn block_count(tree: &Tree) -> Option<u32>
+    ensures count { MatchOption result (2 ^ 32 ≤ length tree.now.blocks.items)
+        (λ count. count ≡ length tree.now.blocks.items) }
+    ensures few { IsWellFormed tree.now → IsSome result }
 {
     let count = tree.blocks.len();
     if count > u32::MAX as usize {
-        return Err(AllocError);
+        return None;
     }
-    Ok(count as u32)
+    Some(count as u32)
 }

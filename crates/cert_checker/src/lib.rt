@@ -48,7 +48,7 @@ pub struct Verdict {
 ///
 /// # Errors
 /// That the certificate names what the program doesn't have, or else the first rule that it breaks, with its place; a
-/// certificate without claims names nothing. Or `Memory`.
+/// certificate without claims names nothing. Or `TooLarge`, or `Memory`.
 pub fn check(alloc: Global, tree: &Tree, certificate: &Certificate) -> Result<Verdict, CheckFault>
     ensures valid { IfOk result (λ verdict. Valid tree.now certificate.now verdict.open_sites.items) }
     ensures refused { IfErr result (IsRefusedFor tree.now certificate.now) }

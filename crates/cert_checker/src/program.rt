@@ -1,7 +1,7 @@
 ghost use Rattle.std.specs.Prelude.{◌≡◌, [], IfOk, MatchResult, length};
 ghost use Rattle.typed_tree.specs.Entries.{entries_of};
-ghost use Rattle.checker_expressions.specs.Walk.{IsBreachOf};
 ghost use Rattle.cert_checker.specs.View.{AreGrounds, IsBegun, IsFaultOf, IsUnbroken};
+ghost use Rattle.cert_checker.specs.Promise.{IsGivenUpFor};
 ghost use Rattle.cert_checker.specs.Walk.{program_walk};
 
 use crate::blocks::block_count;
@@ -30,26 +30,32 @@ pub(crate) struct Found {
 }
 
 /// Walks over a program, block by block.
-pub(crate) fn program(
+pub(crate) fn program<'a>(
     alloc: Global,
-    rows: &Rows,
-    certificate: &Certificate,
+    rows: &'a Rows<'a>,
+    certificate: &'a Certificate,
 ) -> Result<Found, CheckFault>
     ensures sites { IfOk result (λ found. found.open_ids.items ≡ (program_walk rows.now certificate.now).open_ids) }
     ensures visits { IfOk result (λ found. found.visits ≡ length (entries_of rows.now)) }
     ensures rules { MatchResult result (λ _. (program_walk rows.now certificate.now).broken ≡ [])
-        (IsBreachOf (program_walk rows.now certificate.now)) }
+        (IsGivenUpFor rows.now certificate.now) }
 {
     let tree = rows.tree();
-    let count = block_count(tree)?;
-    let declared = all_declared(alloc, tree)?;
+    let Some(count) = block_count(tree) else {
+        return Err(CheckFault::TooLarge);
+    };
+    let Some(declared) = all_declared(alloc, tree)? else {
+        return Err(CheckFault::TooLarge);
+    };
     let grounds = grounds(alloc, tree, certificate)?;
     let claims = all_claims(alloc, tree, certificate)?;
     let aliases = all_loop_aliases(alloc, tree, &grounds.pairs, &claims)?;
     let mut walk = Walk::new(State::of_types(alloc, rows), grounds, &claims, &aliases);
     let mut visits = Visits::new();
     walk.blocks(tree, count, &declared, &mut visits);
-    let visits = visits.finish(tree)?;
+    let Some(visits) = visits.finish(tree) else {
+        return Err(CheckFault::TooLarge);
+    };
     let open_ids = walk.end()?;
     Ok(Found { open_ids, visits })
 }

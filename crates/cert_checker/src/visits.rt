@@ -1,10 +1,9 @@
-ghost use Rattle.std.specs.Prelude.{◌≡◌, ◌<◌, ◌^◌, ◌-◌, IsOk, MatchResult, length};
+ghost use Rattle.std.specs.Prelude.{◌≡◌, ◌<◌, ◌≤◌, MatchOption, length};
 ghost use Rattle.typed_tree.specs.Entries.{entries_of};
 ghost use Rattle.checker_expressions.specs.Visits.{all_counted};
 ghost use Rattle.cert_checker.specs.Visits.{Visits as Counter, counted, most_counted, none_counted};
 
 use checker_expressions::count::Count;
-use std::alloc::AllocError;
 use std::marker::Model;
 use typed_tree::tree::Tree;
 
@@ -45,23 +44,19 @@ impl Visits {
     }
 
     /// The entries that were counted, once the walk over the program ended: those of the program, each once and in
-    /// their order.
-    ///
-    /// # Errors
-    /// A program of 18446744073709551615 entries or more, which fits no memory.
-    pub(crate) fn finish(self, tree: &Tree) -> Result<u64, AllocError>
+    /// their order. `None`: they are more than it counts.
+    pub(crate) fn finish(self, tree: &Tree) -> Option<u64>
         requires { self ≡ all_counted counted (entries_of tree.now) none_counted }
-        ensures told { MatchResult result (λ entries. (entries ≡ self.entries) × (entries < most_counted))
-            (λ _. self.entries ≡ most_counted) }
-        ensures few { length (entries_of tree.now) < most_counted → IsOk result }
+        ensures { MatchOption result (most_counted ≤ length (entries_of tree.now))
+            (λ entries. (entries ≡ self.entries) × (entries < most_counted)) }
     {
         let Visits {
             entries,
             are_in_order: _,
         } = self;
         if entries == u64::MAX {
-            return Err(AllocError);
+            return None;
         }
-        Ok(entries)
+        Some(entries)
     }
 }

@@ -55,8 +55,6 @@ use Rattle.meaning.specs.Meaning.{overflow_of, overflow_of_both}
 use Rattle.checker_expressions.specs.declared.fault.Breach.{Breach}
 use Rattle.checker_expressions.specs.declared.fault.Rule.{Rule}
 use Rattle.checker_expressions.specs.declared.fault.Rule.TheVariants.{Aliases, CallEntry, Changes}
-use Rattle.checker_expressions.specs.declared.fault.CheckFault.{CheckFault}
-use Rattle.checker_expressions.specs.declared.fault.CheckFault.TheVariants.{Memory, Foreign, Broken}
 use Rattle.checker_state.specs.declared.value.Known.{Known}
 use Rattle.checker_state.specs.declared.value.Known.TheVariants.{Ordinal, Set}
 use Rattle.checker_state.specs.Values.{is_closed_member, is_closed_range, known_range, no_members, operated_sets}
@@ -169,12 +167,6 @@ numbers_of = map (λ one. one.number)
 abbrev pub first_breach : List Breach → Option Breach
 first_breach [] = None
 first_breach (breach ∷ breaches) = Some breach
-
--- why a walk by a certificate is given up: for the first rule that it breaks, or for want of memory
-abbrev pub IsBreachOf : {A : Type 0} → Walked A → CheckFault → Type 0
-IsBreachOf walked (Memory _) = Unit {0}
-IsBreachOf walked Foreign = ⊥
-IsBreachOf walked (Broken rule place) = first_breach walked.broken ≡ Some (record { rule = rule; place = place })
 
 -- a site is left open unless it is closed
 abbrev pub left_open : Bool → ℕ → List ℕ

@@ -54,6 +54,10 @@ pub struct Breach {
 pub enum CheckFault {
     #[error("no memory")]
     Memory(Refused),
+    /// More variables or blocks than 32 bits number, or more statements and expressions than 64 bits count. Typing
+    /// takes no such program (K10).
+    #[error("the program is too large")]
+    TooLarge,
     /// C1: the certificate names what the program doesn't have.
     #[error("the certificate names what the program does not have")]
     Foreign,

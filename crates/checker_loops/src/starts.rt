@@ -1,4 +1,4 @@
-ghost use Rattle.std.specs.Prelude.{◌≡◌, ◌<◌, ◌≤◌, ◌^◌, [], false, IfOk, IsOk, MatchResult, length, map, replicate};
+ghost use Rattle.std.specs.Prelude.{◌≡◌, ◌<◌, ◌≤◌, ◌^◌, [], false, IfOk, IsSome, MatchOption, length, map, replicate};
 ghost use Rattle.std.specs.Prelude.{slice_get, suc};
 ghost use Rattle.typed_tree.specs.WellFormed.{IsWellFormed};
 ghost use Rattle.certificate.specs.Contents.{said_fact};
@@ -19,33 +19,36 @@ use std::alloc::{AllocError, Global};
 use typed_tree::tree::{Tree, Variable, VariableKind};
 
 /// The root numbers of the variables that each block of a program declares, by its number, and behind them those of
-/// variables whose block isn't there.
+/// variables whose block isn't there. `None`: 32 bits don't number so many variables.
 ///
 /// # Errors
 /// No memory.
-pub fn all_declared(alloc: Global, tree: &Tree) -> Result<Vec<Vec<u32>>, AllocError>
-    ensures { IfOk result (λ found. map (λ row. row.items) found.items ≡ all_declared tree.now) }
+pub fn all_declared(alloc: Global, tree: &Tree) -> Result<Option<Vec<Vec<u32>>>, AllocError>
+    ensures { IfOk result (λ found. MatchOption found (2 ^ 32 ≤ length tree.now.variables.items)
+        (λ rows. map (λ row. row.items) rows.items ≡ all_declared tree.now)) }
 {
-    let count = root_count(tree)?;
+    let Some(count) = root_count(tree) else {
+        return Ok(None);
+    };
     let mut found = empty_rows(alloc, tree.blocks.len())?;
     for root in 0..count {
         let block = tree.variables[root as usize].block as usize;
         declare(&mut found, block.min(tree.blocks.len()), root)?;
     }
-    Ok(found)
+    Ok(Some(found))
 }
 
-// How many variables there are, if 32 bits hold their number, as of each well formed tree: more fit no memory.
-fn root_count(tree: &Tree) -> Result<u32, AllocError>
-    ensures count { MatchResult result (λ count. count ≡ length tree.now.variables.items)
-        (λ _. 2 ^ 32 ≤ length tree.now.variables.items) }
-    ensures few { IsWellFormed tree.now → IsOk result }
+// How many variables there are, if 32 bits hold their number, as of each well formed tree.
+fn root_count(tree: &Tree) -> Option<u32>
+    ensures count { MatchOption result (2 ^ 32 ≤ length tree.now.variables.items)
+        (λ count. count ≡ length tree.now.variables.items) }
+    ensures few { IsWellFormed tree.now → IsSome result }
 {
     let count = tree.variables.len();
     if count > u32::MAX as usize {
-        return Err(AllocError);
+        return None;
     }
-    Ok(count as u32)
+    Some(count as u32)
 }
 
 // So many rows with no variables, and one more.

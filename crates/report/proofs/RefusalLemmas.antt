@@ -1,6 +1,6 @@
 -- The fault of a layer, as the whole compiler tells it, is a refusal of the source.
 use Rattle.std.proofs.Common.{◌≡◌, ◌≢◌, ⊎_elim, ℕ, List, [], Option, None, Some, Result, Err, map, true, false, refl, sym, subst, ap, ◌∙◌}
-use Rattle.std.specs.Prelude.{Bool, MatchResult, not, ◌||◌}
+use Rattle.std.specs.Prelude.{Bool, MatchResult, length, not, ◌||◌, ◌≤◌}
 use Rattle.memory.specs.Refused.{the_refusal}
 use Rattle.lexer.specs.declared.token.Token.{Token}
 use Rattle.lexer.specs.declared.fault.LexFault.{LexFault}
@@ -8,11 +8,18 @@ use Rattle.lexer.specs.declared.fault.LexFault.TheVariants as lex
 use Rattle.lexer.specs.Tokens.{IsTokenList, IsFirstFault, lexeme_of}
 use Rattle.token_cursor.specs.declared.fault.ParseFault.{ParseFault}
 use Rattle.token_cursor.specs.declared.fault.ParseFault.TheVariants as parse
+use Rattle.place.specs.declared.Place.{Place}
 use Rattle.syntax_tree.specs.declared.Program.{Program}
 use Rattle.parser.specs.Syntax.{IsFaultOf, IsReadAs}
 use Rattle.typed_tree.specs.declared.tree.Tree.{Tree}
+use Rattle.typed_tree.specs.Entries.{entries_in_text}
+use Rattle.typed_tree.specs.Look.{tree_look}
+use Rattle.typed_tree.specs.WellFormed.{IsWellFormed, most_entries}
+use Rattle.typed_tree.proofs.Measured.{entries_are}
+use Rattle.typing.specs.Passing.{after}
 use Rattle.typing.specs.Typing.{typing}
 use Rattle.typing.specs.Outcomes.{IsFault}
+use Rattle.typing_laws.proofs.Programs.{typing_is_lawful}
 use Rattle.typed_tree.specs.declared.fault.TypeFault.{TypeFault}
 use Rattle.typed_tree.specs.declared.fault.TypeFault.TheVariants as untyped
 use Rattle.certificate.specs.declared.fault.ReadFault.{ReadFault}
@@ -28,9 +35,11 @@ use Rattle.report_text.specs.Faults.{lexer_fault, parser_fault, typing_fault, ce
 use Rattle.certificate.specs.declared.Certificate.{Certificate as CertificateRead}
 use Rattle.checker_expressions.specs.declared.fault.CheckFault.{CheckFault}
 use Rattle.checker_expressions.specs.declared.fault.CheckFault.TheVariants as check
+use Rattle.checker_expressions.specs.declared.fault.Rule.{Rule}
 use Rattle.checker_expressions.specs.Walk.{first_breach}
 use Rattle.cert_checker.specs.Promise.{IsAccepted, IsRefusedFor}
 use Rattle.cert_checker.specs.Walk.{program_walk}
+use Rattle.cert_checker.proofs.Huge.{not-huge}
 use Rattle.report.specs.Headline.{IsWrittenAs, IsTypedTreeOf}
 use Rattle.report.specs.Steps.{IsSoundTreeOf}
 use Rattle.report.proofs.Room.{typed_has_room}
@@ -70,13 +79,20 @@ pub typing-refusal : (source : List ℕ) (text : Option (List ℕ)) (fault : Typ
 typing-refusal source text (untyped.Memory _) program written h = tt
 typing-refusal source text fault program written h = (program, written, ⊎_elim (λ e. cc) (λ told. told) h)
 
--- a certificate is refused for what it names, or for the first rule that it breaks
+-- a typed tree of a source has few entries
+few_entries : (tree : Tree) (source : List ℕ) → IsTypedTreeOf tree source → length (entries_in_text tree) ≤ most_entries
+few_entries tree source typed =
+    let lawful = typing_is_lawful typed.0 (after tt (tree_look tree) typed.2.left) typed.2.typed in
+    subst (λ (entries : List ℕ). length entries ≤ most_entries) (entries_are tree) lawful.few_entries
+
+-- a certificate is refused for what it names, or for the first rule that it breaks; the checker has numbers for the tree
 pub checking-refusal : (source : List ℕ) (text : Option (List ℕ)) (tree : Tree) (certificate : CertificateRead) (fault : CheckFault)
-    → AreOf source text tree certificate
+    → IsWellFormed tree → AreOf source text tree certificate
     → IsRefusedFor tree certificate fault → IsRefusal source text (checker_fault fault)
-checking-refusal source text tree certificate (check.Memory _) are h = tt
-checking-refusal source text tree certificate check.Foreign are h = (tree, certificate, are, h)
-checking-refusal source text tree certificate (check.Broken rule place) are h = (tree, certificate, are, h)
+checking-refusal source text tree certificate (check.Memory _) well are h = tt
+checking-refusal source text tree certificate check.TooLarge well are h = not-huge tree well (few_entries tree source are.typed) h
+checking-refusal source text tree certificate check.Foreign well are h = (tree, certificate, are, h)
+checking-refusal source text tree certificate (check.Broken rule place) well are h = (tree, certificate, are, h)
 
 -- a typed tree of a source has no code only where there would be too much of it
 pub large_alone : (tree : Tree) (source : List ℕ) → IsTypedTreeOf tree source → has_no_code tree ≡ true → is_too_large tree ≡ true
@@ -108,12 +124,13 @@ certificate-refusal source text tree (read.OutOfRange line) typed h = (tree, typ
 certificate-refusal source text tree (read.Unended line) typed h = (tree, typed, h (λ same. cc))
 
 -- an accepted certificate isn't refused
-never_refused : (tree : Tree) (certificate : CertificateRead) (fault : CheckFault) → IsAccepted tree certificate
-    → IsRefusedFor tree certificate fault → fault ≡ check.Memory the_refusal
-never_refused tree certificate (check.Memory _) accepted h = refl
-never_refused tree certificate check.Foreign accepted h = absurd (let both : true ≡ false = sym accepted.0 ∙ h in cc)
-never_refused tree certificate (check.Broken rule place) accepted h =
-    absurd (let none : None ≡ Some (record { rule = rule; place = place }) = sym (ap first_breach accepted.1) ∙ h.1 in cc)
+never_foreign : (tree : Tree) (certificate : CertificateRead) → IsAccepted tree certificate → IsRefusedFor tree certificate check.Foreign → ⊥
+never_foreign tree certificate accepted h = let both : true ≡ false = sym accepted.0 ∙ h in cc
+
+never_broken : (tree : Tree) (certificate : CertificateRead) (rule : Rule) (place : Place) → IsAccepted tree certificate
+    → IsRefusedFor tree certificate (check.Broken rule place) → ⊥
+never_broken tree certificate rule place accepted h =
+    let none : None ≡ Some (record { rule = rule; place = place }) = sym (ap first_breach accepted.1) ∙ h.1 in cc
 
 -- without a certificate's text a source isn't refused for a certificate
 pub not_of_certificate : (source : List ℕ) (text : Option (List ℕ)) (fault : Fault) → text ≡ None → IsRefusal source text fault
@@ -124,10 +141,9 @@ not_of_certificate source None (Parse fault) is h = refl
 not_of_certificate source None (Typing fault) is h = refl
 not_of_certificate source None (Certificate fault) is h = absurd h.2
 not_of_certificate source None (Check (check.Memory _)) is h = absurd h
-not_of_certificate source None (Check check.Foreign) is h =
-    absurd (let never : check.Foreign ≡ check.Memory the_refusal = never_refused h.0 h.1 check.Foreign h.2.serves.0 h.3 in cc)
-not_of_certificate source None (Check (check.Broken rule place)) is h =
-    absurd (let never : check.Broken rule place ≡ check.Memory the_refusal = never_refused h.0 h.1 (check.Broken rule place) h.2.serves.0 h.3 in cc)
+not_of_certificate source None (Check check.TooLarge) is h = absurd h
+not_of_certificate source None (Check check.Foreign) is h = absurd (never_foreign h.0 h.1 h.2.serves.0 h.3)
+not_of_certificate source None (Check (check.Broken rule place)) is h = absurd (never_broken h.0 h.1 rule place h.2.serves.0 h.3)
 not_of_certificate source None (Generate fault) is h = refl
 not_of_certificate source None (Code fault) is h = absurd h
 not_of_certificate source (Some text) fault is h = absurd cc

@@ -64,6 +64,7 @@ IsRefusal source text (Typing (untyped.Memory _)) = ⊥
 IsRefusal source text (Typing fault) = (program : Program) × IsWrittenAs source program × (typing program ≡ Err fault)
 IsRefusal source text (Certificate fault) = (tree : Tree) × IsTypedTreeOf tree source × IsFaultIn text fault
 IsRefusal source text (Check (check.Memory _)) = ⊥
+IsRefusal source text (Check check.TooLarge) = ⊥
 IsRefusal source text (Check fault) =
     (tree : Tree) × (certificate : CertificateRead) × AreOf source text tree certificate
     × IsRefusedFor tree certificate fault

@@ -48,8 +48,8 @@ abbrev pub open_line : Site → List ℕ
 open_line site =
     place_text site.place.line site.place.column ++ codes ": possible error: " ++ name_of site.kind ++ 10 ∷ []
 
--- the letters of the rules: L of tokens, P of syntax, F of the text of a certificate, C of its claims, G of the code, A
--- of its text; those of names and types tell their own
+-- the letters of the rules: L of tokens, P of syntax, F of the text of a certificate, C of its claims, K of a program
+-- that the checker has no numbers for, G of the code, A of its text; those of names and types tell their own
 abbrev pub letter_l : ℕ
 letter_l = 76
 
@@ -61,6 +61,9 @@ letter_f = 70
 
 abbrev pub letter_c : ℕ
 letter_c = 67
+
+abbrev pub letter_k : ℕ
+letter_k = 75
 
 abbrev pub letter_g : ℕ
 letter_g = 71
@@ -90,6 +93,7 @@ certificate_refusal fault = at_line_or_memory (line_of fault) (read.number_of fa
 
 abbrev pub checker_refusal : CheckFault → Refusal
 checker_refusal (check.Memory _) = Memory
+checker_refusal check.TooLarge = Whole (record { letter = letter_k; number = 10 })
 checker_refusal check.Foreign = Claims (record { letter = letter_c; number = 1 })
 checker_refusal (check.Broken broken place) =
     Claim place (record { letter = letter_c; number = rule.number_of broken })

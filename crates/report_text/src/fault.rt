@@ -94,7 +94,9 @@ impl From<CheckFault> for Fault {
     fn from(fault: CheckFault) -> Fault {
         match fault {
             CheckFault::Memory(refused) => Fault::Memory(refused),
-            CheckFault::Foreign | CheckFault::Broken { .. } => Fault::Check(fault),
+            CheckFault::TooLarge | CheckFault::Foreign | CheckFault::Broken { .. } => {
+                Fault::Check(fault)
+            }
         }
     }
 }

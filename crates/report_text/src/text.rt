@@ -174,6 +174,10 @@ fn checker_refusal(fault: CheckFault) -> Refusal
 {
     match fault {
         CheckFault::Memory(_) => Refusal::Memory,
+        CheckFault::TooLarge => Refusal::Whole(RuleCode {
+            letter: b'K',
+            number: 10,
+        }),
         CheckFault::Foreign => Refusal::Claims(RuleCode {
             letter: b'C',
             number: 1,

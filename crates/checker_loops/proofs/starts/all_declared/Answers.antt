@@ -28,7 +28,7 @@ loop-root-preserved c =
     record {
       long = omega (arith, same, set, long-same old, long-same new, so_far.long);
       left =
-          roots-next blocks root place declared c.index.result.now (rows_in old) (rows_in new) _ (omega (arith, c.loop-root-test.true, c.in_ok-count.ensures))
+          roots-next blocks root place declared c.index.result.now (rows_in old) (rows_in new) _ (omega (arith, c.loop-root-test.true, c.in-Some.ensures.count))
           c.index.ensures place_is put so_far.left;
     }
 
@@ -37,5 +37,5 @@ returns c =
     let tree = c.args.tree.now in
     let declared : List Variable = tree.variables.items in
     let root = c.loop-root.root in
-    let past = drop_all root declared (omega (arith, c.loop-root-test.false, c.in_ok-count.ensures)) in
+    let past = drop_all root declared (omega (arith, c.loop-root-test.false, c.in-Some.ensures.count)) in
     ap (λ rest. with_roots (length tree.blocks.items) root rest (rows_in c.loop-root.found.items)) (sym past) ∙ c.loop-root.invariant.left ∙ table-is tree

@@ -25,4 +25,4 @@ returns-in_err-verdict c = λ source sound.
     let told = err_from_is_err_and c.from_residual-in_err-verdict.result c.from_residual-in_err-verdict.ensures.1 in
     refused_by _ source text c.from_residual-in_err-verdict.result told.0 _ told.1 told.2
     (checking-refusal source text c.args.tree.now c.in_ok-certificate.certificate c.in_err-verdict.field-0.0
-    (record { typed = sound.typed; serves = c.in_ok-certificate.ensures source sound }) c.in_err-verdict.ensures.refused)
+    sound.well_formed (record { typed = sound.typed; serves = c.in_ok-certificate.ensures source sound }) c.in_err-verdict.ensures.refused)

@@ -4,9 +4,9 @@ use Rattle.cert_checker.specs.Visits.{Visits}
 use Rattle.cert_checker.proofs.Counted.{all-most}
 use Rattle.cert_checker.proofs.visits.Visits.finish.Goals as goal
 
-pub returns-then-entries-clause-few : goal.returns-then-entries-clause-few
-returns-then-entries-clause-few c = λ few.
+pub returns-then-entries : goal.returns-then-entries
+returns-then-entries c =
     let most = all-most (entries_of c.args.tree.now) c.args.self c.requires in
     let all = c.if-entries.true in
     let same = ap (λ (visits : Visits). visits.entries) c.self.view_is in
-    absurd (omega (arith, few, most, all, same))
+    omega (arith, most, all, same)
