@@ -2,9 +2,14 @@
 //! `rt try --test --fail-alloc N`, the first call says so; the second one has memory, and answers over the same values
 //! as if there had been no call before it.
 
+use interpreter::interpret;
+use lexer::tokens;
+use meaning::outcome::Ending;
+use parser::parse;
 use report::compile::compile;
 use report::fault::Fault;
 use report::text::lines;
+use resolver::resolve;
 use scopes::{Denotation, ScopeFault, Scopes};
 use std::alloc::{AllocError, Global};
 use std::slice;
@@ -104,6 +109,35 @@ fn a_name_is_declared_by_a_second_call(rt: HostRuntime) -> Result<(), Fail> {
         assert!(rt; declared.is_ok() && is_constant(&scopes, name, value));
         value = value.wrapping_add(1);
     }
+    Ok(())
+}
+
+const RESOLVED: &[u8] =
+    b"program p(output); type t = 1..3; var x: integer; r: array [t] of record y: t end;
+    procedure q(var v: integer); begin v := v + 3 end;
+    begin
+      for x := 1 to 3 do r[x].y := 4 - x;
+      x := 0; while x < 9 do q(x);
+      write(x: 1, r[1].y: 1, r[3].y: 1)
+    end.";
+
+// By hand: two blocks, the variables x, r and v, and two loops; and q takes x from 0 to 9 by threes.
+#[test]
+fn a_program_is_resolved_by_a_second_call(rt: HostRuntime) -> Result<(), Fail> {
+    let alloc = rt.alloc();
+    let list = tokens(alloc, RESOLVED)?;
+    let program = parse(alloc, &list)?;
+    let resolved = match resolve(alloc, &program) {
+        Err(_) => resolve(alloc, &program),
+        first => first,
+    };
+    let Ok(tree) = resolved else {
+        return Err(Fail::new("a second call is refused"));
+    };
+    assert!(rt; tree.blocks.len() == 2 && tree.variables.len() == 3 && tree.loops.len() == 2);
+    let outcome = interpret(alloc, &tree, b"", 60)?;
+    assert!(rt; outcome.output.as_slice() == b"931".as_slice());
+    assert!(rt; matches!(outcome.ending, Ending::Finished));
     Ok(())
 }
 

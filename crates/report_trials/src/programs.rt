@@ -1,7 +1,7 @@
 use crate::shown::text_of;
 use crate::stage::Stage;
 use report::pcom::pcom;
-use std::alloc::{AllocError, Global};
+use std::alloc::Global;
 use std::test::Fail;
 use test_words::rows::all_hold;
 
@@ -75,19 +75,25 @@ static ACTS: [(&[&str], &str); 9] = [
     ),
 ];
 
-fn acts_told(alloc: Global, words: &&[&str]) -> Result<String, AllocError> {
+// What is done for the words. It fails where memory was refused to the program, or to what lies outside of it; there is
+// room for the output.
+fn acts_told(alloc: Global, words: &&[&str]) -> Result<String, Fail> {
     let files = [
         ("p.pas", COUNTS.as_bytes()),
         ("errs.pas", ERRS.as_bytes()),
         ("refused.pas", REFUSED.as_bytes()),
         ("empty.cert", b"pcert 1\n".as_slice()),
     ];
-    let mut stage = Stage::new(alloc, &files, Vec::new(alloc), Vec::new(alloc));
+    let output = Vec::with_capacity(alloc, 64)?;
+    let mut stage = Stage::new(alloc, &files, output, Vec::new(alloc));
     stage.full = "full.cert";
     let status = pcom(alloc, words, &mut stage);
+    if stage.is_refused || stage.errors.as_slice() == b"no memory\n".as_slice() {
+        return Err(Fail::new("no memory"));
+    }
     let (acts, written) = (text_of(&stage.acts), text_of(&stage.written));
     let (output, errors) = (text_of(&stage.output), text_of(&stage.errors));
-    format!(in alloc; "{acts}|{written}|{output}|{errors}|{status}")
+    Ok(format!(in alloc; "{acts}|{written}|{output}|{errors}|{status}")?)
 }
 
 #[test]

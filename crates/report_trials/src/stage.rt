@@ -28,6 +28,8 @@ pub(crate) struct Stage<'a> {
     pub(crate) written: Vec<u8>,
     pub(crate) output: Vec<u8>,
     pub(crate) errors: Vec<u8>,
+    // Whether memory was refused to what lies here.
+    pub(crate) is_refused: bool,
 }
 
 impl<'a> Stage<'a> {
@@ -46,13 +48,16 @@ impl<'a> Stage<'a> {
             written: Vec::new(alloc),
             output,
             errors,
+            is_refused: false,
         }
     }
 
     // An act, with the path of its file. None is noted where there is no memory.
     fn note(&mut self, act: &str, path: &str) {
         for part in [act, path, ";"] {
-            let _noted = self.acts.extend_from_slice(part.as_bytes());
+            if self.acts.extend_from_slice(part.as_bytes()).is_err() {
+                self.is_refused = true;
+            }
         }
     }
 }
@@ -68,18 +73,30 @@ impl Outside for Stage<'_> {
     fn read_file(&mut self, path: &str) -> Option<Vec<u8>> {
         self.note("read ", path);
         let (_, bytes) = self.files.iter().find(|(name, _)| *name == path)?;
-        bytes.to_vec(self.alloc).ok()
+        let read = bytes.to_vec(self.alloc).ok();
+        if read.is_none() {
+            self.is_refused = true;
+        }
+        read
     }
 
     fn write_file(&mut self, path: &str, text: &[u8]) -> bool {
         self.note("write ", path);
-        path != self.full && self.written.extend_from_slice(text).is_ok()
+        if path == self.full {
+            return false;
+        }
+        let is_written = self.written.extend_from_slice(text).is_ok();
+        if !is_written {
+            self.is_refused = true;
+        }
+        is_written
     }
 
     fn tell(&mut self, parts: &[&[u8]]) -> bool {
         self.note("tell", "");
         for part in parts {
             if self.errors.extend_from_slice(part).is_err() {
+                self.is_refused = true;
                 return false;
             }
         }
