@@ -38,7 +38,9 @@ impl Selection {
 }
 
 impl Members {
-    ghost use Rattle.std.specs.Prelude.{None};
+    ghost use Rattle.std.specs.Prelude.{◌+◌, ◌<◌, ◌≤◌, None, IfErr, vec_len, vec_capacity};
+    ghost use Rattle.memory.specs.Refused.{the_refusal};
+    ghost use Rattle.typed_tree.specs.declared.fault.TypeFault.TheVariants.{Memory};
 
     /// No members.
     pub(crate) fn none(alloc: Global) -> Members
@@ -51,6 +53,20 @@ impl Members {
             values: Vec::new(alloc),
             host: None,
         }
+    }
+
+    /// There is room for one more, of so many values.
+    pub(crate) fn make_room(&mut self, values: usize) -> Result<(), TypeFault>
+        ensures designators { self.new.designators.items ≡ self.old.designators.items }
+        ensures values { self.new.values.items ≡ self.old.values.items }
+        ensures host { self.new.host ≡ self.old.host }
+        ensures room { IfOk result (λ _. (vec_len self.new.designators < vec_capacity self.new.designators)
+            × (vec_len self.new.values + values ≤ vec_capacity self.new.values)) }
+        ensures refused { IfErr result (λ why. why ≡ Memory the_refusal) }
+    {
+        self.designators.reserve(1)?;
+        self.values.reserve(values)?;
+        Ok(())
     }
 }
 

@@ -25,6 +25,7 @@ use crate::accesses::{
 use crate::forms::{first_place, fits, only};
 use crate::input::{input_call, input_value};
 use crate::operators::{self, monadic};
+use crate::owned::made_beside;
 use crate::typed::{
     Begun, Members, Reached, RightOperand, Selection, SitedMember, TypedCall, TypedExpr, TypedLinks,
 };
@@ -89,8 +90,9 @@ pub fn expression(
             )
         }
         syntax::Expr::Chain { first, rest } => {
+            let place = first_place(first);
             let left = expression(typer, first, lead)?;
-            chain(typer, first_place(first), left, rest)
+            chain(typer, place, left, rest)
         }
         syntax::Expr::Relation {
             left,
@@ -466,6 +468,7 @@ fn right_operand(
     let number = typer.enter()?;
     let operand = expression(typer, written, None)?;
     if !may_relate(typer.types(), operator, left, operand.typed()) {
+        drop(operand);
         return Err(TypeFault::Mismatch(place));
     }
     Ok(RightOperand {
@@ -532,13 +535,14 @@ fn single(typer: &mut Typer, written: &syntax::Expr, made: &mut Members) -> Resu
     ensures { TakesMember 1 (spec.member made.old.host (spec.expression written.now) None typer.old) made.old result
         made.new typer.new }
 {
+    made.make_room(1)?;
     let SitedMember {
         site,
         type_id,
         value,
     } = first_member(typer, made.host, written)?;
-    made.values.push(value)?;
-    made.designators.push(Designator::Single { site })?;
+    made.values.push_reserved(value);
+    made.designators.push_reserved(Designator::Single { site });
     made.host = Some(type_id);
     Ok(())
 }
@@ -554,15 +558,16 @@ fn range(
     ensures { TakesMember 2 (range_behind first (spec.expression last.now) typer.old) made.old result made.new
         typer.new }
 {
+    made_beside!(made.make_room(2), first);
     let SitedMember {
         site,
         type_id,
         value,
     } = first;
-    let (type_id, last) = last_member(typer, Some(type_id), last)?;
-    made.values.push(value)?;
-    made.values.push(last)?;
-    made.designators.push(Designator::Range { site })?;
+    let (type_id, last) = made_beside!(last_member(typer, Some(type_id), last), value);
+    made.values.push_reserved(value);
+    made.values.push_reserved(last);
+    made.designators.push_reserved(Designator::Range { site });
     made.host = Some(type_id);
     Ok(())
 }
@@ -671,7 +676,7 @@ fn function_value(
     typer.pass(place);
     let site = typer.behind(lead, place)?;
     let made = routine_call(typer, true, block, place, actuals)?;
-    let type_id = result_type(typer, place, made.root)?;
+    let type_id = made_beside!(result_type(typer, place, made.root), made);
     let value = Expr::Call {
         call: made.call,
         actuals: made.actuals,
@@ -814,7 +819,10 @@ fn passed_access(
     let from = variable.from;
     let reached = reach(typer, name.place, variable, selectors, indexes)?;
     let selected = &reached.access.selectors;
-    typer.passable(wanted, from, selected, reached.type_id, name.place)?;
+    made_beside!(
+        typer.passable(wanted, from, selected, reached.type_id, name.place),
+        reached
+    );
     Ok(Passed::Reference {
         type_id: wanted,
         access: reached.access,

@@ -6,6 +6,7 @@ mod expressions;
 mod forms;
 mod input;
 mod operators;
+mod owned;
 mod typed;
 mod value;
 

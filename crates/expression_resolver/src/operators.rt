@@ -10,6 +10,7 @@ ghost use Rattle.expression_resolver.specs.Made.{MakesChain, MakesRelation, held
 ghost use Rattle.expression_resolver.specs.Made.{typed_of};
 ghost use Rattle.expression_resolver.specs.Values.{is_held_as_told, look_value, scalar_of, value_of};
 
+use crate::owned::made_beside;
 use crate::typed::{Begun, RightOperand, TypedExpr, TypedLinks};
 use crate::value::Value;
 use place::Place;
@@ -68,8 +69,10 @@ pub(crate) fn chain(
     requires held { AreLinksOf (value_of left.value) rest }
     ensures { MakesChain place left rest result }
 {
-    let rest = rest?;
+    let rest = made_beside!(rest, left);
     if !rest.typed.value.is_scalar() {
+        drop(left);
+        drop(rest);
         return Err(TypeFault::Mismatch(place));
     }
     let site = left.site;
@@ -113,7 +116,7 @@ pub(crate) fn relation(
         number,
         operation,
         operand,
-    } = right?;
+    } = made_beside!(right, left);
     if left.typed().value.is_scalar() {
         linked(alloc, number, operation, left, operand)
     } else {

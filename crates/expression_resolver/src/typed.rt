@@ -2,6 +2,7 @@ ghost use Rattle.std.specs.Prelude.{◌≡◌, true};
 ghost use Rattle.typed_tree.specs.Kinds.{are_ordinal_indexes, is_ordinal_expr};
 ghost use Rattle.expression_resolver.specs.Values.{are_held_actuals, is_held_as_told};
 
+use crate::owned::made_beside;
 use crate::value::Value;
 use place::Place;
 use std::alloc::Global;
@@ -110,17 +111,6 @@ impl TypedExpr {
         }
     }
 
-    /// It with what is told of it, unless that is refused.
-    pub(crate) fn with<T: Drop>(
-        self,
-        told: Result<T, TypeFault>,
-    ) -> Result<(T, TypedExpr), TypeFault>
-        ensures { MatchResult result (λ made. (told ≡ Ok made.0) × (made.1 ≡ self)) (λ why. told ≡ Err why) }
-    {
-        let told = told?;
-        Ok((told, self))
-    }
-
     /// The ordinal or the set that it is, with what is told of it, unless that is refused.
     pub(crate) fn scalar_with<T: Drop>(
         self,
@@ -130,8 +120,8 @@ impl TypedExpr {
         ensures { MatchResult result (λ made. (told ≡ Ok made.0) × IsScalarOf self.value made.1)
             (λ why. told ≡ Err why) }
     {
-        let (told, made) = self.with(told)?;
-        Ok((told, made.into_scalar()))
+        let told = made_beside!(told, self);
+        Ok((told, self.into_scalar()))
     }
 
     /// The structured value that it is, with its index expressions, unless what is told of it is refused.
@@ -143,8 +133,8 @@ impl TypedExpr {
         requires structured { IfOk told (λ one. is_some (whole_copy (value_of self.value)) ≡ true) }
         ensures { MatchResult result (λ made. IsOk told × IsWholeOf self.value made) (λ why. told ≡ Err why) }
     {
-        let (_, made) = self.with(told)?;
-        Ok(made.into_whole(alloc))
+        made_beside!(told, self);
+        Ok(self.into_whole(alloc))
     }
 
     /// The ordinal that it is, of this type: K1 at the place where it is none.
@@ -155,6 +145,7 @@ impl TypedExpr {
         ensures held { IfOk result (λ made. is_ordinal_expr made ≡ true) }
     {
         if !self.typed().is_of(type_id) {
+            drop(self);
             return Err(TypeFault::Mismatch(place));
         }
         Ok(self.into_scalar())

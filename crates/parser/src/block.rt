@@ -7,6 +7,7 @@ ghost use Rattle.token_cursor.specs.Cursor.{Makes, Takes};
 ghost use Rattle.parser.specs.Blocks.{block_below, may_take_forward};
 ghost use Rattle.parser.specs.Built.{compound_outlines};
 
+use crate::beside::made_beside;
 use crate::headings::{heading, takes_directive};
 use crate::lists::{block_part, is_next};
 use crate::statement::compound;
@@ -30,10 +31,15 @@ pub(crate) fn block<'a>(
     ensures { Makes block_outline (spec.block levels cursor.old.rest.now) result cursor.new }
 {
     let constants = block_part(alloc, cursor, levels, Word::Const)?;
-    let types = block_part(alloc, cursor, levels, Word::Type)?;
-    let variables = block_part(alloc, cursor, levels, Word::Var)?;
-    let routines = routines(alloc, cursor, levels)?;
-    let (statements, end) = statement_part(alloc, cursor, levels)?;
+    let types = made_beside!(block_part(alloc, cursor, levels, Word::Type), constants);
+    let variables = made_beside!(
+        block_part(alloc, cursor, levels, Word::Var),
+        constants,
+        types
+    );
+    let routines = made_beside!(routines(alloc, cursor, levels), constants, types, variables);
+    let part = statement_part(alloc, cursor, levels);
+    let (statements, end) = made_beside!(part, constants, types, variables, routines);
     Ok(Block {
         constants,
         types,
@@ -94,7 +100,8 @@ fn routine<'a>(
     let heading = heading(alloc, cursor)?;
     let directive = takes_directive(&heading);
     let block = body(alloc, cursor, levels, directive);
-    let block = cursor.followed_by(block, Kind::Symbol(Symbol::Semicolon))?;
+    let block = cursor.followed_by(block, Kind::Symbol(Symbol::Semicolon));
+    let block = made_beside!(block, heading);
     Ok(Routine { heading, block })
 }
 

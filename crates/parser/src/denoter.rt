@@ -8,6 +8,7 @@ ghost use Rattle.parser.specs.Denoters.{array_type, record_type, set_type};
 ghost use Rattle.token_cursor.specs.Rows.{MakesRows};
 ghost use Rattle.parser.specs.Fields.{fields_look};
 
+use crate::beside::made_beside;
 use crate::lists::behind_arm;
 use crate::names::field_names;
 use crate::unstructured::{enumerated, name_or_subrange};
@@ -71,7 +72,7 @@ fn array<'a>(
     let indexes = indexes(alloc, cursor, levels);
     let indexes = cursor.followed_by(indexes, Kind::Symbol(Symbol::CloseBracket));
     let indexes = cursor.followed_by(indexes, Kind::Word(Word::Of))?;
-    let element = part(alloc, cursor, levels)?;
+    let element = made_beside!(part(alloc, cursor, levels), indexes);
     Ok(TypeDenoter::Array {
         packed,
         place,

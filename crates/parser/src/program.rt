@@ -9,6 +9,7 @@ ghost use Rattle.token_cursor.specs.LeftOut.{first_left_out};
 ghost use Rattle.parser.specs.Ended.{IsEnded};
 ghost use Rattle.parser.specs.Syntax.{most, Answers, IsDeep, IsOfRules, IsReadAs};
 
+use crate::beside::made_beside;
 use crate::block::block;
 use crate::lists::in_parentheses;
 use lexer::token::{Kind, Symbol, Token, Word};
@@ -55,7 +56,7 @@ fn program<'a>(alloc: Global, cursor: &mut Cursor<'_, 'a>) -> Result<Program<'a>
     let parameters = parameters(alloc, cursor);
     let parameters = cursor.followed_by(parameters, Kind::Symbol(Symbol::Semicolon))?;
     let block = block(alloc, cursor, MAX_NESTING);
-    let block = ended(cursor, block)?;
+    let block = made_beside!(ended(cursor, block), parameters);
     Ok(Program {
         name,
         parameters,

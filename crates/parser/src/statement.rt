@@ -6,7 +6,7 @@ ghost use Rattle.token_cursor.specs.Rows.{MakesRows};
 ghost use Rattle.parser.specs.Built.{alternative_outline, body_outline, case_outlines, compound_outlines};
 ghost use Rattle.parser.specs.Built.{control_lexeme, initial_outline, records_outlines, statements_outlines};
 
-use crate::beside::beside;
+use crate::beside::{beside, made_beside};
 use crate::constants::row;
 use crate::lists::behind_arm;
 use expression_parser::expression::{actuals, expression, selectors};
@@ -32,7 +32,7 @@ pub(crate) fn compound<'a>(
 {
     cursor.expect_word(Word::Begin)?;
     let statements = statements(alloc, cursor, levels)?;
-    let end = cursor.expect_word(Word::End)?;
+    let end = made_beside!(cursor.expect_word(Word::End), statements);
     Ok((statements, end))
 }
 
@@ -119,8 +119,8 @@ fn conditional<'a>(
 {
     let place = cursor.expect_word(Word::If)?;
     let condition = guard(alloc, cursor, levels, Word::Then)?;
-    let consequence = body(alloc, cursor, levels)?;
-    let alternative = alternative(alloc, cursor, levels)?;
+    let consequence = made_beside!(body(alloc, cursor, levels), condition);
+    let alternative = made_beside!(alternative(alloc, cursor, levels), condition, consequence);
     Ok(Stmt::If {
         place,
         condition,
@@ -159,7 +159,7 @@ fn while_loop<'a>(
 {
     let place = cursor.expect_word(Word::While)?;
     let condition = guard(alloc, cursor, levels, Word::Do)?;
-    let body = body(alloc, cursor, levels)?;
+    let body = made_beside!(body(alloc, cursor, levels), condition);
     Ok(Stmt::While {
         place,
         condition,
@@ -201,8 +201,8 @@ fn for_loop<'a>(
 {
     let (place, variable) = control(cursor)?;
     let (first, direction) = initial(alloc, cursor, levels)?;
-    let last = guard(alloc, cursor, levels, Word::Do)?;
-    let body = body(alloc, cursor, levels)?;
+    let last = made_beside!(guard(alloc, cursor, levels, Word::Do), first);
+    let body = made_beside!(body(alloc, cursor, levels), first, last);
     Ok(Stmt::For {
         place,
         variable,
@@ -245,7 +245,7 @@ fn case_of<'a>(alloc: Global, cursor: &mut Cursor<'_, 'a>, levels: u32) -> Resul
 {
     let place = cursor.expect_word(Word::Case)?;
     let index = guard(alloc, cursor, levels, Word::Of)?;
-    let (constants, arms, semicolon) = arms(alloc, cursor, levels)?;
+    let (constants, arms, semicolon) = made_beside!(arms(alloc, cursor, levels), index);
     Ok(Stmt::Case {
         place,
         index,

@@ -8,6 +8,7 @@ ghost use Rattle.typing.specs.Statements as spec;
 ghost use Rattle.typing.specs.View.{denoted_of};
 ghost use Rattle.resolver.specs.Made.{MakesStmt, MakesTarget, result_variable};
 
+use crate::owned::made_beside;
 use expression_resolver::{Reached, copied, fitted, reach};
 use place::Place;
 use scopes::Denotation;
@@ -35,7 +36,8 @@ pub(crate) fn assignment(
     let target = target(typer, name, selectors, indexes)?;
     if typer.types().is_structured(target.type_id) {
         typer.pass(becomes);
-        let (value, value_indexes) = copied(typer, target.type_id, becomes, value)?;
+        let copied = copied(typer, target.type_id, becomes, value);
+        let (value, value_indexes) = made_beside!(copied, target);
         return Ok(Stmt::Copy(Copying {
             number,
             becomes,
@@ -46,7 +48,8 @@ pub(crate) fn assignment(
             value_indexes,
         }));
     }
-    let Fitted { value, fits } = fitted(typer, target.type_id, becomes, value)?;
+    let fitted = fitted(typer, target.type_id, becomes, value);
+    let Fitted { value, fits } = made_beside!(fitted, target);
     Ok(Stmt::Assign(Assignment {
         number,
         becomes,

@@ -13,6 +13,7 @@ ghost use Rattle.expression_resolver.specs.Values.{look_value, value_of};
 ghost use Rattle.resolver.specs.Made.{MakesStmt, MakesParameter, MakesParameters, MakesWidth, MakesOwnWidth};
 ghost use Rattle.resolver.specs.Made.{MakesActuals, IsWrittenAs};
 
+use crate::owned::made_beside;
 use crate::reading::read;
 use expression_resolver::{TypedExpr, expression, first_place, named_file, routine_call};
 use place::Place;
@@ -188,9 +189,10 @@ fn parameter(typer: &mut Typer, written: &syntax::Actual) -> Result<WriteParamet
     ensures made { MakesParameter (spec.parameter (written_actual written.now) typer.old) result typer.new }
     ensures held { IfOk result (λ made. is_held_parameter made ≡ true) }
 {
+    let place = first_place(&written.value);
     let made = expression(typer, &written.value, None)?;
-    let value = written_value(typer, made, first_place(&written.value))?;
-    let width = width(typer, &written.width)?;
+    let value = written_value(typer, made, place)?;
+    let width = made_beside!(width(typer, &written.width), value);
     Ok(WriteParameter { value, width })
 }
 
@@ -208,7 +210,10 @@ fn written_value(typer: &Typer, made: TypedExpr, place: Place) -> Result<Written
             let (value, indexes) = made.into_whole(typer.alloc);
             Ok(Written::String { value, indexes })
         }
-        _ => Err(TypeFault::Mismatch(place)),
+        _ => {
+            drop(made);
+            Err(TypeFault::Mismatch(place))
+        }
     }
 }
 
@@ -225,7 +230,10 @@ fn written_ordinal(
         (λ why. (spec.written_as typer.now.types (typed_of made) ≡ None) × (why ≡ Mismatch place)) }
     ensures held { IfOk result (λ made. is_held_written made ≡ true) }
 {
-    let representation = representation(typer.types(), type_id).ok_or(TypeFault::Mismatch(place))?;
+    let Some(representation) = representation(typer.types(), type_id) else {
+        drop(made);
+        return Err(TypeFault::Mismatch(place));
+    };
     let value = made.into_scalar();
     Ok(Written::Ordinal {
         value,
@@ -264,6 +272,7 @@ fn measured(made: TypedExpr, place: Place) -> Result<Width, TypeFault>
     ensures held { IfOk result (λ width. is_ordinal_expr width.value ≡ true) }
 {
     let Some(site) = made.site else {
+        drop(made);
         return Err(TypeFault::Mismatch(place));
     };
     let value = made.of(TypeTable::INTEGER, place)?;

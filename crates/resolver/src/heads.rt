@@ -9,6 +9,7 @@ ghost use Rattle.typing.specs.Steps.{enter_as};
 ghost use Rattle.expression_resolver.specs.Values.{AreTestedAlike, tested_as};
 ghost use Rattle.resolver.specs.Made.{MakesBound, MakesStmt, MakesCaseHead, MakesCondition, MakesIfHead, MakesForHead};
 
+use crate::owned::made_beside;
 use expression_resolver::{expression, first_place, fitted};
 use place::Place;
 use syntax_tree as syntax;
@@ -79,7 +80,7 @@ pub(crate) fn for_head(
     typer.may_control(variable.place, control)?;
     let (number, loop_number) = typer.enter_loop()?;
     let first = bound(typer, type_id, first)?;
-    let last = bound(typer, type_id, last)?;
+    let last = made_beside!(bound(typer, type_id, last), first);
     Ok(ForHead {
         number,
         loop_number,
@@ -115,8 +116,9 @@ pub(crate) fn case_head(
 {
     let site = typer.site(SiteKind::Case, place)?;
     let number = typer.enter()?;
+    let place = first_place(index);
     let made = expression(typer, index, None)?;
-    let type_id = ordinal_of(typer.types(), first_place(index), made.typed())?;
+    let type_id = made_beside!(ordinal_of(typer.types(), place, made.typed()), made);
     let head = CaseHead {
         number,
         site,

@@ -107,7 +107,7 @@ fn program_blocks(
         body,
         end: program.block.end,
     };
-    made.push(MadeBlock { number: 0, block })?;
+    made.push_reserved(MadeBlock { number: 0, block });
     Ok(())
 }
 

@@ -9,6 +9,7 @@ ghost use Rattle.typing.specs.Statements as spec;
 ghost use Rattle.resolver.specs.Made.{MakesRead, MakesReads, MakesStmt};
 
 use crate::calls::parameters_of;
+use crate::owned::made_beside;
 use expression_resolver::{access, first_place, named_variable};
 use place::Place;
 use scopes::RequiredProcedure;
@@ -101,7 +102,8 @@ fn read_access(
     typer.may_change(name.place, variable.root)?;
     let point = typer.point(name.place)?;
     let reached = access(typer, variable, selectors, indexes)?;
-    let (reads, range) = read_as(typer.types(), name.place, reached.type_id)?;
+    let read = read_as(typer.types(), name.place, reached.type_id);
+    let (reads, range) = made_beside!(read, reached);
     Ok(ReadVariable {
         access: reached.access,
         indexes: reached.indexes,

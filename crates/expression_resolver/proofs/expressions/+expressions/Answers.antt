@@ -67,13 +67,13 @@ expression-returns-in_default t c =
 pub expression-returns-in_err-left-in-Chain : goal.expression-returns-in_err-left-in-Chain
 expression-returns-in_err-left-in-Chain t c =
     let it = c.in-Chain in
-    let begun = chain_begun c.args.written.now c.args.lead c.args.typer.now it.first it.rest c.deref-in-Chain.result.now it.is c.deref-in-Chain.ensures in
+    let begun = chain_begun c.args.written.now c.args.lead c.args.typer.now it.first it.rest c.deref-in-Chain-2.result.now it.is c.deref-in-Chain-2.ensures in
     search (rules, begun)
 
 pub expression-returns-in_ok-left-in-Chain : goal.expression-returns-in_ok-left-in-Chain
 expression-returns-in_ok-left-in-Chain t c =
     let it = c.in-Chain in
-    let begun = chain_begun c.args.written.now c.args.lead c.args.typer.now it.first it.rest c.deref-in-Chain.result.now it.is c.deref-in-Chain.ensures in
+    let begun = chain_begun c.args.written.now c.args.lead c.args.typer.now it.first it.rest c.deref-in-Chain-2.result.now it.is c.deref-in-Chain-2.ensures in
     search (rules, begun, behind_both)
 
 pub expression-returns-in_err-left-in-Relation : goal.expression-returns-in_err-left-in-Relation
@@ -227,8 +227,8 @@ passed_access-returns-in_err-reached-clause-made t c = λ callee position.
     c.named_variable.new.typer (denoted_of c.in_ok-variable.variable) c.in_ok-variable.ensures.made in
     search (rules, goes)
 
-pub passed_access-returns-in_err-passable-clause-made : goal.passed_access-returns-in_err-passable-clause-made
-passed_access-returns-in_err-passable-clause-made t c = λ callee position.
+pub passed_access-returns-in-Err-clause-made : goal.passed_access-returns-in-Err-clause-made
+passed_access-returns-in-Err-clause-made t c = λ callee position.
     let goes = access_goes c.args.name.now c.args.selectors.now (map expression c.args.indexes.now) c.args.wanted callee position c.args.typer.now
     c.named_variable.new.typer (denoted_of c.in_ok-variable.variable) c.in_ok-variable.ensures.made in
     search (rules, goes)
@@ -255,9 +255,9 @@ passed_variable-returns-in-Component-clause-made t c =
 
 -- ---- calls
 
-pub function_value-returns-in_err-type_id : goal.function_value-returns-in_err-type_id
+pub function_value-returns-in-Err : goal.function_value-returns-in-Err
 unfolding spec.function_value
-function_value-returns-in_err-type_id t c =
+function_value-returns-in-Err t c =
     let by = value_by_host c.args.place c.in_ok-site.site c.in_ok-made.made.root c.routine_call.new.typer in
     search (rules, by)
 

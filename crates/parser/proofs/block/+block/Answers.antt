@@ -11,11 +11,10 @@ use Rattle.parser.proofs.block.+block.Goals as goal
 pub block-returns : goal.block-returns
 block-returns t c =
     block_at c.args.levels c.args.cursor.now.rest.now
-    ∙ block_made c.args.levels (block_below c.args.levels) c.args.cursor.now.rest.now _ _ _ _ _ _ _ _ _ _ c.in_ok-constants.ensures c.in_ok-types.ensures
-    c.in_ok-variables.ensures c.in_ok-routines.ensures c.in_ok-statements.ensures
-    ∙ ap (λ o. Ok (o, c.statement_part.new.cursor.rest.now))
-    (sym (built_block c.in_ok-constants.constants c.in_ok-types.types c.in_ok-variables.variables c.in_ok-routines.routines
-    c.in_ok-statements.statements c.in_ok-statements.end))
+    ∙ block_made c.args.levels (block_below c.args.levels) c.args.cursor.now.rest.now _ _ _ _ _ _ _ _ _ _ c.in_ok-constants.ensures c.in-Ok.ensures
+    c.in-Ok-block_part.ensures c.in-Ok-routines.ensures c.in-Ok-part.ensures
+    ∙ ap (λ o. Ok (o, c.statement_part-part.new.cursor.rest.now))
+    (sym (built_block c.in_ok-constants.constants c.in-Ok.made c.in-Ok-block_part.made c.in-Ok-routines.made c.in-Ok-part.made.0 c.in-Ok-part.made.1))
 
 -- ---- procedures and functions
 

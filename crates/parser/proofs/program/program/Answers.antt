@@ -12,9 +12,9 @@ use Rattle.parser.specs.Syntax.{most}
 use Rattle.parser.proofs.Programs.{program_is, ended_makes}
 use Rattle.parser.proofs.program.program.Goals as goal
 
-pub returns-in_err-block : goal.returns-in_err-block
-returns-in_err-block c =
-    let why = c.in_err-block.field-0.0 in
+pub returns-in-Err : goal.returns-in-Err
+returns-in-Err c =
+    let why = c.in-Err.refusal in
     let names = map name_outline c.in_ok-parameters.parameters.items in
     let behind = c.followed_by.new.self.rest.now in
     let stops : (¬ (why ≡ Memory the_refusal)) → spec.program most c.args.cursor.now.rest.now ≡ Err (why, c.ended.new.cursor.rest.now) =
@@ -24,7 +24,7 @@ returns-in_err-block c =
     (Ok c.in_ok-parameters.parameters) (kind.Symbol symbol.Semicolon) c.parameters-parameters.new.cursor c.followed_by.new.self
     c.parameters-parameters.ensures c.in_ok-parameters.ensures)
     ∙ ended_makes block_outline (form.program (identifier c.in_ok-name.name) names) c.ended.new.cursor (spec.block most behind) c.block-block.result (Err why)
-    c.block-block.new.cursor c.block-block.ensures c.in_err-block.ensures m in
+    c.block-block.new.cursor c.block-block.ensures c.in-Err.ensures m in
     search rules
 
 pub returns : goal.returns
@@ -37,4 +37,4 @@ returns c =
     (Ok c.in_ok-parameters.parameters) (kind.Symbol symbol.Semicolon) c.parameters-parameters.new.cursor c.followed_by.new.self
     c.parameters-parameters.ensures c.in_ok-parameters.ensures)
     ∙ ended_makes block_outline (form.program (identifier c.in_ok-name.name) names) c.ended.new.cursor (spec.block most behind) c.block-block.result
-    (Ok c.in_ok-block.block) c.block-block.new.cursor c.block-block.ensures c.in_ok-block.ensures
+    (Ok c.in-Ok.made) c.block-block.new.cursor c.block-block.ensures c.in-Ok.ensures

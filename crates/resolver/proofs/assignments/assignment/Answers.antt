@@ -18,9 +18,9 @@ returns-in_err-target-clause-made c = search rules
 
 -- ---- it is structured
 
-pub returns-in_err-value-clause-made : goal.returns-in_err-value-clause-made
+pub returns-in-Err-clause-made : goal.returns-in-Err-clause-made
 unfolding spec.assignment spec.copied kind_now
-returns-in_err-value-clause-made c =
+returns-in-Err-clause-made c =
     let test : is_structured_kind (kind_of c.target.new.typer.types c.in_ok-target.target.type_id) ≡ true = search rules in
     let structured = structured_kind (kind_of c.target.new.typer.types c.in_ok-target.target.type_id) test in
     search (rules, structured)
@@ -34,9 +34,9 @@ returns-then-is_structured-clause-made c =
 
 -- ---- it is an ordinal or a set
 
-pub returns-in_err-value-2-clause-made : goal.returns-in_err-value-2-clause-made
+pub returns-in-Err-fitted-clause-made : goal.returns-in-Err-fitted-clause-made
 unfolding spec.assignment spec.assigned kind_now
-returns-in_err-value-2-clause-made c =
+returns-in-Err-fitted-clause-made c =
     let made = c.in_ok-target.target in
     let kind = kind_of c.target.new.typer.types made.type_id in
     let test : is_structured_kind kind ≡ false = search rules in

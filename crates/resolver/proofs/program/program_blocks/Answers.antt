@@ -21,7 +21,7 @@ returns-clause-made c =
     let body = c.in_ok-body.body in
     let heading : Heading = record { around = c.new.result; parameters = c.new-2.result; result = None } in
     let made : MadeBlock = record { number = 0; block = record { heading = heading; body = body; end = (out-Block program.block).end } } in
-    let blocks : typed.0 ++ made ∷ [] ≡ c.push.new.self.items =
-    sym (c.in_ok-push.ensures.items ∙ ap (λ l. l ++ made ∷ []) (typed.1 ∙ ap (λ l. l ++ typed.0) c.requires.none)) in
+    let blocks : typed.0 ++ made ∷ [] ≡ c.push_reserved.new.self.items =
+    sym (c.push_reserved.ensures.items ∙ ap (λ l. l ++ made ∷ []) (typed.1 ∙ ap (λ l. l ++ typed.0) c.requires.none)) in
     program_made program c.args.typer.now c.body.new.typer c.requires.begun typed.0 body typed.2 heading c.new.ensures.items c.new-2.ensures.items refl
     ∙ ap (λ l. Ok (after tt (look_made l) c.body.new.typer)) blocks

@@ -27,8 +27,8 @@ returns-in_err-reached-clause-made c =
     search (rules, goes)
 
 -- it isn't read
-pub returns-in_err-reads-clause-made : goal.returns-in_err-reads-clause-made
-returns-in_err-reads-clause-made c =
+pub returns-in-Err-clause-made : goal.returns-in-Err-clause-made
+returns-in-Err-clause-made c =
     let goes = accessed_goes c.args.name.now c.args.selectors.now (map expression c.args.indexes.now) c.args.typer.now c.named_variable.new.typer
     c.may_change.new.self c.point.new.self c.in_ok-variable.variable c.in_ok-point.point c.in_ok-variable.ensures.made c.in_ok-may_change.ensures.taken
     c.in_ok-point.ensures.taken in
@@ -40,6 +40,6 @@ returns-clause-made c =
     let goes = accessed_goes c.args.name.now c.args.selectors.now (map expression c.args.indexes.now) c.args.typer.now c.named_variable.new.typer
     c.may_change.new.self c.point.new.self c.in_ok-variable.variable c.in_ok-point.point c.in_ok-variable.ensures.made c.in_ok-may_change.ensures.taken
     c.in_ok-point.ensures.taken in
-    let looks = read_made c.in_ok-reached.reached (denoted_of c.in_ok-variable.variable).origin c.in_ok-reads.reads c.in_ok-point.point
-    c.in_ok-reads.range c.in_ok-reached.ensures.origin c.in_ok-reached.ensures.counted in
+    let looks = read_made c.in_ok-reached.reached (denoted_of c.in_ok-variable.variable).origin c.in-Ok.made.0 c.in_ok-point.point
+    c.in-Ok.made.1 c.in_ok-reached.ensures.origin c.in_ok-reached.ensures.counted in
     search (rules, goes, looks)

@@ -1,0 +1,15 @@
+/// What was made. Where it was refused the parts that were made before are let go by calls of `drop`, and the fault is
+/// returned: a `?` lets them go itself, which takes four times as long to prove.
+macro_rules! made_beside {
+    ($made:expr, $($part:ident),+) => {
+        match $made {
+            Ok(made) => made,
+            Err(fault) => {
+                $(drop($part);)+
+                return Err(fault);
+            }
+        }
+    };
+}
+
+pub(crate) use made_beside;
