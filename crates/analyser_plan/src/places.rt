@@ -58,18 +58,18 @@ impl<'g, 'p, 't> Grounds<'g, 'p, 't> {
         let memory = &self.program.memory;
         let mut all = memory.rows(self.turns.len());
         for event in self.program.events.iter().flatten() {
-            if let Event::Enter { number, head } = event
+            if let Event::Enter { number, .. } = event
                 && let Some(facts) = all.get_mut(*number as usize)
             {
-                let control = head.map(|head| head.control);
-                *facts = self.turn(*number, control);
+                *facts = self.turn(*number);
             }
         }
         all
     }
 
-    // Those of a loop, which has a control variable if it is a for.
-    fn turn(&self, number: u32, control: Option<u32>) -> Vec<Fact> {
+    // Those of a loop. What a for gives its control variable lies between its bounds, so that gets no range here, which
+    // would grow turn by turn and move the ranges of all that is stored.
+    fn turn(&self, number: u32) -> Vec<Fact> {
         let mut facts = self.program.memory.none();
         let Some(one) = self.program.tree.loops.get(number as usize) else {
             return facts;
@@ -83,9 +83,6 @@ impl<'g, 'p, 't> Grounds<'g, 'p, 't> {
             for alias in self.program.memory.list(aliases).iter().chain(&[*root]) {
                 self.program.memory.push(&mut touched, *alias);
             }
-        }
-        for root in one.controls.iter().chain(&control) {
-            self.program.memory.push(&mut touched, *root);
         }
         settle(&mut touched);
         self.add_ranges(&touched, &mut facts);
