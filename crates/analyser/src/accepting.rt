@@ -11,6 +11,7 @@ use cert_checker::laws::plain_is_accepted;
 use certificate::fault::ReadFault;
 use certificate::{Certificate, Fact, read, write};
 use checker_expressions::fault::CheckFault;
+use domain::facts::Spans;
 use plain_certificate::widest;
 use std::alloc::{AllocError, Global};
 use typed_tree::tree::Tree;
@@ -37,7 +38,7 @@ pub fn accepted(
     refusals: &mut u32,
 ) -> Result<Certificate, AllocError>
     ensures accepted { IsWellFormed tree.now → IfOk result (λ certificate. IsAccepted tree.now certificate) }
-    ensures in_order { IfOk result (λ certificate. are_in_order (contents certificate) ≡ true) }
+    ensures in_order { IfOk result (λ certificate. are_in_order certificate.version (contents certificate) ≡ true) }
 {
     plain_is_accepted();
     let mut left = certificate;
@@ -64,7 +65,7 @@ fn settled(
     certificate: &Certificate,
 ) -> Result<Option<Certificate>, AllocError>
     ensures { IfOk result (λ settled. IfSome settled (λ certificate. IsAccepted tree.now certificate
-        × (are_in_order (contents certificate) ≡ true))) }
+        × (are_in_order certificate.version (contents certificate) ≡ true))) }
 {
     let text = write(alloc, certificate)?;
     let certificate = match read(alloc, &text) {
@@ -113,7 +114,10 @@ fn is_no_order(fact: &Fact) -> bool {
 
 fn is_no_stretch(fact: &Fact) -> bool {
     match fact {
-        Fact::Stretch { .. } => false,
+        Fact::Defined {
+            spans: Spans::One(_),
+            ..
+        } => false,
         _ => true,
     }
 }

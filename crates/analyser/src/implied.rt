@@ -3,7 +3,7 @@
 use certificate::Fact;
 use checker_loops::claims::rows_named;
 use checker_rows::Rows;
-use domain::facts::{Bound, Path, Step};
+use domain::facts::{Bound, Path, Span, Spans, Step};
 
 // How far a fact may stand from one that says it, in the order of facts.
 const NEAR: usize = 64;
@@ -35,22 +35,26 @@ fn is_implied(rows: &Rows, facts: &[Fact], place: usize) -> bool {
 // Whether a fact says another one, which isn't the same.
 fn says(rows: &Rows, fact: &Fact, other: &Fact) -> bool {
     match (fact, other) {
-        (Fact::Defined { path }, Fact::Defined { path: inner }) => leads_to(path, inner),
-        (Fact::Defined { path }, Fact::Stretch { path: inner, .. }) => leads_to(path, inner),
         (
-            Fact::Stretch { path, first, last },
-            Fact::Stretch {
-                path: inner,
-                first: from,
-                last: to,
+            Fact::Defined { path, spans },
+            Fact::Defined {
+                path: part,
+                spans: others,
             },
-        ) => {
-            let is_wide = is_at_most(*first, *from) && is_at_most(*to, *last);
-            leads_to(path, inner)
-                && leads_to(inner, path)
-                && (is_wide || is_all(rows, path, *first, *last))
-        }
+        ) => { leads_to(path, part) && have(rows, path, *spans, part, *others) }
         _ => false,
+    }
+}
+
+// Whether what lies in spans of what a path leads to has what lies in spans of a part of that.
+fn have(rows: &Rows, path: &Path, spans: Spans, part: &Path, others: Spans) -> bool {
+    match (spans, others) {
+        (Spans::None, _) => true,
+        (Spans::One(_), Spans::None) => false,
+        (Spans::One(Span { first, last }), Spans::One(other)) => {
+            let is_wide = is_at_most(first, other.first) && is_at_most(other.last, last);
+            leads_to(part, path) && (is_wide || is_all(rows, path, first, last))
+        }
     }
 }
 

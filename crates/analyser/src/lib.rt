@@ -49,7 +49,7 @@ pub struct Found {
 /// No memory.
 pub fn guess(alloc: Global, tree: &Tree) -> Result<Certificate, AllocError>
     ensures accepted { IsWellFormed tree.now → IfOk result (λ certificate. IsAccepted tree.now certificate) }
-    ensures in_order { IfOk result (λ certificate. are_in_order (contents certificate) ≡ true) }
+    ensures in_order { IfOk result (λ certificate. are_in_order certificate.version (contents certificate) ≡ true) }
 {
     let found = find(alloc, tree)?;
     Ok(found.certificate)
@@ -61,7 +61,8 @@ pub fn guess(alloc: Global, tree: &Tree) -> Result<Certificate, AllocError>
 /// No memory.
 pub fn find(alloc: Global, tree: &Tree) -> Result<Found, AllocError>
     ensures accepted { IsWellFormed tree.now → IfOk result (λ found. IsAccepted tree.now found.certificate) }
-    ensures in_order { IfOk result (λ found. are_in_order (contents found.certificate) ≡ true) }
+    ensures in_order { IfOk result (λ found.
+        are_in_order found.certificate.version (contents found.certificate) ≡ true) }
 {
     let rows = Rows::of(alloc, tree)?;
     let Plan {

@@ -3,9 +3,10 @@
 use crate::events::Event;
 use crate::lists::{number_of, row, settle};
 use crate::program::{Program, Question};
-use certificate::{AliasPair, Certificate, LoopClaims, Section, Version};
+use certificate::{AliasPair, Certificate, LoopClaims, Section};
 use checker_calls::overlaps::{is_declared_in, may_overlap};
 use checker_loops::pairs::Pairs;
+use domain::versions::Version;
 use std::alloc::AllocError;
 use typed_tree::tree::Passed;
 

@@ -44,11 +44,8 @@ impl Part {
 
     /// Whether no step leads to elements.
     pub(crate) fn is_direct(&self) -> bool {
-        !self
-            .path
-            .steps
-            .iter()
-            .any(|step| matches!(step, Step::Element))
+        let mut steps = self.path.steps.iter();
+        !steps.any(|step| matches!(step, Step::Element))
     }
 
     // Its elements or its fields.

@@ -7,6 +7,7 @@ use crate::program::Program;
 use certificate::Fact;
 use checker_calls::visible::{is_outward, is_value_parameter};
 use checker_loops::pairs::Pairs;
+use domain::facts::{Span, Spans};
 use domain::interval::Interval;
 
 /// What proposals are made of, by block number, and what turns change by loop number.
@@ -135,7 +136,10 @@ impl<'g, 'p, 't> Grounds<'g, 'p, 't> {
             for part in self.program.parts(*root) {
                 if part.is_direct() {
                     let path = part.path(&self.program.memory, None);
-                    self.program.memory.push(facts, Fact::Defined { path });
+                    let spans = Spans::None;
+                    self.program
+                        .memory
+                        .push(facts, Fact::Defined { path, spans });
                 }
             }
         }
@@ -145,14 +149,13 @@ impl<'g, 'p, 't> Grounds<'g, 'p, 't> {
     fn add(&self, claim: &Claim, facts: &mut Vec<Fact>) {
         let fact = match claim {
             Claim::Stretch(array, first, last) => {
-                let Some(part) = self.program.parts(array.root).get(array.part) else {
-                    return;
-                };
-                let (Some(first), Some(last)) = (first.said(), last.said()) else {
+                let part = self.program.parts(array.root).get(array.part);
+                let (Some(part), Some(first), Some(last)) = (part, first.said(), last.said()) else {
                     return;
                 };
                 let path = part.path(&self.program.memory, None);
-                Fact::Stretch { path, first, last }
+                let spans = Spans::One(Span { first, last });
+                Fact::Defined { path, spans }
             }
             Claim::Order(root, other) => Fact::Order {
                 root: *root,

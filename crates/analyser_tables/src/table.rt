@@ -149,9 +149,7 @@ impl<'p, 'a> Pace<'p, 'a> {
                 let row = rows_named(self.rows, path).first;
                 self.widen(row, range, coming.range(path), beside)
             }
-            Fact::Defined { .. } | Fact::Stretch { .. } | Fact::Order { .. } => {
-                claimed(fact, coming)
-            }
+            Fact::Defined { .. } | Fact::Order { .. } => claimed(fact, coming),
         }
     }
 

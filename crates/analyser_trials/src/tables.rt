@@ -6,7 +6,7 @@ use checker_calls::actuals::{Actual, Bindings};
 use checker_rows::Rows;
 use checker_state::Order;
 use checker_trail::State;
-use domain::facts::Path;
+use domain::facts::{Path, Spans};
 use domain::interval::Interval;
 use std::alloc::{AllocError, Global};
 use std::test::Fail;
@@ -51,6 +51,7 @@ fn path(alloc: Global, root: u32) -> Path {
 fn defined(alloc: Global, root: u32) -> Fact {
     Fact::Defined {
         path: path(alloc, root),
+        spans: Spans::None,
     }
 }
 
@@ -90,8 +91,11 @@ fn fact_told(alloc: Global, fact: &Fact) -> Result<String, AllocError> {
     match fact {
         Fact::Range { range, .. } => format!(in alloc; " {}..{}", range.first(), range.last()),
         Fact::Order { number, .. } => format!(in alloc; " {number}"),
-        Fact::Defined { path } => format!(in alloc; " v{}", path.root),
-        _ => String::from_str(alloc, " another"),
+        Fact::Defined {
+            path,
+            spans: Spans::None,
+        } => format!(in alloc; " v{}", path.root),
+        Fact::Defined { .. } => String::from_str(alloc, " another"),
     }
 }
 

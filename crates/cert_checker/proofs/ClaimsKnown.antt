@@ -4,7 +4,7 @@ use Rattle.std.proofs.Common.{◌&&◌, ◌||◌, nat_eq, List, [], ◌∷◌, �
 use Rattle.std.specs.List.{Contains, list_all, range_with_len}
 use Rattle.std.specs.Prelude.{nat_lt, slice_get}
 use Rattle.std.proofs.lemmas.Bool.{and_parts, cases_lt, eqb-true, false≢true, not-true, or_cases, or_parts}
-use Rattle.std.proofs.lemmas.List.{get_or_past, length-map}
+use Rattle.std.proofs.lemmas.List.{append-nil, get_or_past, length-map}
 use Rattle.std.proofs.lemmas.List.FromFn.{get_or-map-range_with_len, length-range_with_len}
 use Rattle.typed_tree.specs.WellFormed.{is_declared, is_local_kind, is_result_kind, is_round, is_value_kind, is_visible, of_one, outline_of}
 use Rattle.typed_tree.specs.declared.tree.Tree.{Tree}
@@ -16,6 +16,7 @@ use Rattle.certificate.specs.declared.facts.Fact.TheVariants as kept
 use Rattle.certificate.specs.Contents.{contents, is_empty, said_fact, section_of}
 use Rattle.domain.specs.declared.facts.Bound.{Bound as KeptBound}
 use Rattle.domain.specs.declared.facts.Bound.TheVariants as kept_bound
+use Rattle.domain.specs.declared.facts.Spans.TheVariants as kept_spans
 use Rattle.domain.specs.Facts.{Fact, said_bound}
 use Rattle.checker_state.specs.Loops.{is_among}
 use Rattle.certificate.specs.declared.AliasPair.{AliasPair}
@@ -72,10 +73,11 @@ bounds-same (kept_bound.Plus root n) = refl
 
 roots-same : (one : KeptFact) → given.fact_roots (said_fact one) ≡ fact_roots one
 roots-same (kept.Range path range) = refl
-roots-same (kept.Defined path) = refl
-roots-same (kept.Stretch path first last) =
-    ap (λ (roots : List ℕ). path.root ∷ (roots ++ given.bound_roots (said_bound last))) (bounds-same first)
-    ∙ ap (λ (roots : List ℕ). path.root ∷ (bound_roots first ++ roots)) (bounds-same last)
+roots-same (kept.Defined path kept_spans.None) = refl
+roots-same (kept.Defined path (kept_spans.One span)) =
+    ap (λ (roots : List ℕ). path.root ∷ roots) (append-nil (given.bound_roots (said_bound span.first) ++ given.bound_roots (said_bound span.last)))
+    ∙ ap (λ (roots : List ℕ). path.root ∷ (roots ++ given.bound_roots (said_bound span.last))) (bounds-same span.first)
+    ∙ ap (λ (roots : List ℕ). path.root ∷ (bound_roots span.first ++ roots)) (bounds-same span.last)
 roots-same (kept.Order root other n) = refl
 
 -- the variables that a fact names pass a test
@@ -98,8 +100,8 @@ result-known tree block root is =
 
 own-known : (tree : Tree) (block : ℕ) (one : KeptFact) → is_own_result tree block one ≡ true → IsOwnResult tree block (said_fact one)
 own-known tree block (kept.Range path range) is = result-known tree block path.root is
-own-known tree block (kept.Defined path) is = result-known tree block path.root is
-own-known tree block (kept.Stretch path first last) is = absurd (false≢true is)
+own-known tree block (kept.Defined path kept_spans.None) is = result-known tree block path.root is
+own-known tree block (kept.Defined path (kept_spans.One span)) is = absurd (false≢true is)
 own-known tree block (kept.Order root other n) is = absurd (false≢true is)
 
 -- what is known where it ends

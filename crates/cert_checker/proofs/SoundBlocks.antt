@@ -18,7 +18,7 @@ use Rattle.typed_tree.specs.declared.tree.FunctionResult.{FunctionResult}
 use Rattle.typed_tree.specs.declared.tree.Tree.{Tree}
 use Rattle.typed_tree.specs.declared.tree.Variable.{Variable}
 use Rattle.typed_tree.proofs.Blocks.{are_loops_at}
-use Rattle.domain.specs.Facts.{Fact, Range, Defined, Stretch, Order}
+use Rattle.domain.specs.Facts.{Fact, Range, Defined, Order}
 use Rattle.domain.specs.Interval.{Interval, common}
 use Rattle.meaning.specs.declared.store.Value.{Value}
 use Rattle.meaning.specs.declared.store.Value.TheVariants.{Number}
@@ -124,8 +124,7 @@ module _ (tree : Tree) (env : Environment) (store : Store) (claims : List Fact) 
       All-contains (λ (c : Claim). Holds (all_parts tree) c (moment env store)) (all_said tree claims) (claim.Range row range) hold
       (in-flat (said tree) claims (Range path range) (claim.Range row range) listed
       (in-map (λ r. claim.Range r range) named row (among-contains named row among))) steps v of_row value)
-  claim-in (Defined path) listed known inside = inside
-  claim-in (Stretch path first last) listed known inside = inside
+  claim-in (Defined path spans) listed known inside = inside
   claim-in (Order one other number) listed known inside = inside
 
   -- a value lies where claims that hold say

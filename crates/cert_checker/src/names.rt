@@ -1,11 +1,11 @@
 //! What a certificate may name of a program (ISO 7185:1990, 6.2.2): its blocks, its loops, and the variables that are
 //! visible where something is claimed of them.
-ghost use Rattle.std.specs.Prelude.{◌≡◌, true, if◌then◌else◌, nat_eq, slice_get};
+ghost use Rattle.std.specs.Prelude.{◌≡◌, if◌then◌else◌, nat_eq, slice_get};
 ghost use Rattle.std.specs.List.{list_all};
 ghost use Rattle.types.specs.Types.{is_scalar};
 ghost use Rattle.checker_calls.specs.Names.{block_is_known, bound_is_known, bound_roots, claims_are_known};
-ghost use Rattle.checker_calls.specs.Names.{exit_is_known, fact_is_known, fact_is_on, fact_roots, has_parameter};
-ghost use Rattle.checker_calls.specs.Names.{is_array, is_known};
+ghost use Rattle.checker_calls.specs.Names.{exit_is_known, fact_is_known, fact_is_on, fact_roots, has_indexes};
+ghost use Rattle.checker_calls.specs.Names.{has_parameter, is_array, is_known, spans_are_known, spans_roots};
 ghost use Rattle.checker_calls.specs.Names.{is_of_loops, is_own_result, is_round_about, names, pair_is_known};
 ghost use Rattle.checker_calls.specs.Names.{section_is_known, stands_in};
 ghost use Rattle.cert_checker.specs.NamesView.{may_name};
@@ -15,7 +15,7 @@ use checker_calls::visible::{
     is_outward, is_result, is_value_parameter, is_variable_parameter, is_visible,
 };
 use checker_rows::Rows;
-use domain::facts::{Bound, Path};
+use domain::facts::{Bound, Path, Spans};
 use typed_tree::tree::Tree;
 use types::{TypeForm, TypeId, TypeTable};
 
@@ -122,8 +122,11 @@ fn is_own_result(tree: &Tree, block: u32, fact: &Fact) -> bool
 {
     match fact {
         Fact::Range { path, .. } => is_result(tree, block, path.root),
-        Fact::Defined { path } => is_result(tree, block, path.root),
-        _ => false,
+        Fact::Defined { path, spans } => match spans {
+            Spans::None => is_result(tree, block, path.root),
+            Spans::One(_) => false,
+        },
+        Fact::Order { .. } => false,
     }
 }
 
@@ -213,14 +216,23 @@ fn fact_names(tree: &Tree, block: u32, nameable: Nameable, fact: &Fact) -> bool
 {
     match fact {
         Fact::Range { path, .. } => may_name(tree, block, nameable, path.root),
-        Fact::Defined { path } => may_name(tree, block, nameable, path.root),
-        Fact::Stretch { path, first, last } => {
-            may_name(tree, block, nameable, path.root)
-                && bound_names(tree, block, nameable, *first)
-                && bound_names(tree, block, nameable, *last)
+        Fact::Defined { path, spans } => {
+            may_name(tree, block, nameable, path.root) && spans_name(tree, block, nameable, *spans)
         }
         Fact::Order { root, other, .. } => {
             may_name(tree, block, nameable, *root) && may_name(tree, block, nameable, *other)
+        }
+    }
+}
+
+fn spans_name(tree: &Tree, block: u32, nameable: Nameable, spans: Spans) -> bool
+    ensures { result ≡ list_all (may_name tree.now block nameable.entry) (spans_roots spans) }
+{
+    match spans {
+        Spans::None => true,
+        Spans::One(span) => {
+            bound_names(tree, block, nameable, span.first)
+                && bound_names(tree, block, nameable, span.last)
         }
     }
 }
@@ -239,9 +251,8 @@ fn fact_is_known(rows: &Rows, fact: &Fact) -> bool
 {
     match fact {
         Fact::Range { path, .. } => names_scalars(rows, path),
-        Fact::Defined { path } => names_part(rows, path),
-        Fact::Stretch { path, first, last } => {
-            names_arrays(rows, path) && bound_is_known(rows, *first) && bound_is_known(rows, *last)
+        Fact::Defined { path, spans } => {
+            names_elements(rows, path, *spans) && spans_are_known(rows, *spans)
         }
         Fact::Order { root, other, .. } => {
             rows.is_ordinal_variable(*root) && rows.is_ordinal_variable(*other)
@@ -249,14 +260,7 @@ fn fact_is_known(rows: &Rows, fact: &Fact) -> bool
     }
 }
 
-/// Whether a path names a part.
-fn names_part(rows: &Rows, path: &Path) -> bool
-    ensures { result ≡ names rows.now (λ _. true) path.now }
-{
-    rows.named(path).is_some()
-}
-
-/// Whether it names one of an ordinal or a set type.
+/// Whether a path names a part of an ordinal or a set type.
 fn names_scalars(rows: &Rows, path: &Path) -> bool
     ensures { result ≡ names rows.now (is_scalar rows.now.types) path.now }
 {
@@ -266,13 +270,22 @@ fn names_scalars(rows: &Rows, path: &Path) -> bool
     }
 }
 
-/// Whether it names an array.
-fn names_arrays(rows: &Rows, path: &Path) -> bool
-    ensures { result ≡ names rows.now (is_array rows.now.types) path.now }
+/// Whether it names a part with elements that have an index for each span.
+fn names_elements(rows: &Rows, path: &Path, spans: Spans) -> bool
+    ensures { result ≡ names rows.now (has_indexes rows.now.types spans) path.now }
 {
     match rows.named(path) {
         None => false,
-        Some(part) => is_array(&rows.tree().types, part.type_id),
+        Some(part) => has_indexes(&rows.tree().types, spans, part.type_id),
+    }
+}
+
+fn has_indexes(types: &TypeTable, spans: Spans, id: TypeId) -> bool
+    ensures { result ≡ has_indexes types.now spans id }
+{
+    match spans {
+        Spans::None => true,
+        Spans::One(_) => is_array(types, id),
     }
 }
 
@@ -282,6 +295,15 @@ fn is_array(types: &TypeTable, id: TypeId) -> bool
     match types.form(id) {
         Some(TypeForm::Array { .. }) => true,
         _ => false,
+    }
+}
+
+fn spans_are_known(rows: &Rows, spans: Spans) -> bool
+    ensures { result ≡ spans_are_known rows.now spans }
+{
+    match spans {
+        Spans::None => true,
+        Spans::One(span) => bound_is_known(rows, span.first) && bound_is_known(rows, span.last),
     }
 }
 

@@ -1,25 +1,29 @@
 -- The line that says something is read again.
 use Rattle.std.proofs.Common.{◌≡◌, ℕ, suc, ℤ, pos, Bool, true, false, ◌&&◌, ◌||◌, nat_lt, int_le, int_lt, ◌==◌, List, [], ◌∷◌, ◌++◌, length}
-use Rattle.std.proofs.Common.{drop, Ok, refl, ap, ◌∙◌, arith, decimal}
+use Rattle.std.proofs.Common.{drop, nat_le, Ok, refl, ap, ◌∙◌, arith, decimal}
+use Rattle.std.specs.List.{flat_map, list_all}
 use Rattle.std.specs.Ordering.{int_eq}
 use Rattle.std.specs.Fmt.{signed_decimal}
 use Rattle.std.proofs.lemmas.Bool.{and_parts}
 use Rattle.std.proofs.lemmas.Bool.Decides.{nat_tests}
 use Rattle.std.proofs.lemmas.Int.{ints}
+use Rattle.std.proofs.lemmas.List.{append-nil}
 use Rattle.domain.specs.Interval.{Interval}
-use Rattle.domain.specs.Facts.{Fact as VariableFact, Bound, Path}
-use Rattle.domain.specs.Facts.{Range, Defined, Stretch, Order}
-use Rattle.certificate.specs.Bounds.{bound_words}
+use Rattle.domain.specs.Facts.{Fact as VariableFact, Path, Span}
+use Rattle.domain.specs.Facts.{Range, Defined, Order}
+use Rattle.domain.specs.Versions.{most_spans}
+use Rattle.domain.specs.declared.versions.Version.{Version}
+use Rattle.certificate.specs.Bounds.{bound_words, span_words}
 use Rattle.certificate.specs.declared.AliasPair.{AliasPair}
 use Rattle.certificate.specs.Building.{is_content, said_line}
-use Rattle.certificate.specs.Contents.{is_bound, is_claim, is_constant, is_fact, is_path, is_plain, is_small}
+use Rattle.certificate.specs.Contents.{is_claim, is_constant, is_fact, is_path, is_plain, is_small, is_span}
 use Rattle.certificate.specs.Lines.{Claim, Alias, Change, Entry, Exit, Fact, Content, Block, Loop, Claimed, claim_of, claim_words, pair_of}
 use Rattle.certificate.specs.Lines.{defined_at, defined_fact, fact_of, fact_words, line_of, order_fact, range_fact, range_of}
-use Rattle.certificate.specs.Lines.{reading, stretch_fact}
+use Rattle.certificate.specs.Lines.{reading, spanned_fact}
 use Rattle.certificate.specs.Paths.{path_words}
 use Rattle.certificate.specs.Text.{lines}
 use Rattle.certificate.specs.Words.{variable}
-use Rattle.certificate.proofs.BoundLaws.{bound_above, bound_again}
+use Rattle.certificate.proofs.BoundLaws.{spans_above, spans_again}
 use Rattle.certificate.proofs.Numerals.{constant_again}
 use Rattle.certificate.proofs.PathLaws.{path_above, path_again}
 use Rattle.certificate.proofs.WordLaws.{are_above, above_append, blank_found, blank_missed, constant_above, drop_past, number_above, number_again}
@@ -42,9 +46,9 @@ range_again path first last true false true less one low plain = absurd (both_be
 range_again path first last true false false less one low plain = absurd cc
 range_again path first last false one below less one_is low plain = rw less refl
 
-range_fact_again : (path : Path) (range : Interval) → is_fact (Range path range) ≡ true
+range_fact_again : (version : Version) (path : Path) (range : Interval) → is_fact version (Range path range) ≡ true
     → range_fact (path_words path ++ 32 ∷ (signed_decimal range.first ++ 32 ∷ signed_decimal range.last)) ≡ Ok (Range path range)
-range_fact_again path range fits =
+range_fact_again version path range fits =
     let right = and_parts (is_path true path) _ fits in
     let low = and_parts (is_constant range.first) _ right.1 in
     let high = and_parts (is_constant range.last) (is_plain range) low.1 in
@@ -57,30 +61,24 @@ range_fact_again path range fits =
     )
     (range_again path range.first range.last _ _ _ refl refl refl high.1)
 
-stretch_again : (path : Path) (first last : Bound) → is_fact (Stretch path first last) ≡ true
-    → defined_fact (path_words path ++ 32 ∷ (bound_words first ++ 32 ∷ bound_words last)) ≡ Ok (Stretch path first last)
-stretch_again path first last fits =
-    let right = and_parts (is_path false path) _ fits in
-    let ends = and_parts (is_bound first) (is_bound last) right.1 in
-    let bounds = bound_words first ++ 32 ∷ bound_words last in
-    ap (defined_at (path_words path ++ 32 ∷ bounds)) (blank_found (path_words path) bounds (path_above false 32 path (omega arith) right.0))
-    ∙ ap (λ word. stretch_fact word (drop (suc (length (path_words path))) (path_words path ++ 32 ∷ bounds))) (word_before (path_words path) bounds)
-    ∙ ap (stretch_fact (path_words path)) (drop_past (path_words path) bounds)
-    ∙ rw (
-      parted_again (bound_words first) (bound_words last) (bound_above 32 first (omega arith) ends.0),
-      path_again false path right.0,
-      bound_again first ends.0,
-      bound_again last ends.1,
-    ) refl
-
-defined_again : (path : Path) → is_path false path ≡ true → defined_fact (path_words path) ≡ Ok (Defined path)
-defined_again path right =
-    ap (defined_at (path_words path)) (blank_missed (path_words path) (path_above false 32 path (omega arith) right))
+defined_again : (version : Version) (path : Path) (spans : List Span) → is_fact version (Defined path spans) ≡ true
+    → defined_fact version (path_words path ++ flat_map span_words spans) ≡ Ok (Defined path spans)
+defined_again version path [] fits =
+    let right = (and_parts (is_path false path) _ fits).0 in
+    ap (defined_fact version) (append-nil (path_words path))
+    ∙ ap (defined_at version (path_words path)) (blank_missed (path_words path) (path_above false 32 path (omega arith) right))
     ∙ rw (path_again false path right) refl
+defined_again version path (span ∷ more) fits =
+    let right = and_parts (is_path false path) _ fits in
+    let spans = (bound_words span.first ++ 32 ∷ bound_words span.last) ++ flat_map span_words more in
+    ap (defined_at version (path_words path ++ 32 ∷ spans)) (blank_found (path_words path) spans (path_above false 32 path (omega arith) right.0))
+    ∙ ap (λ word. spanned_fact version word (drop (suc (length (path_words path))) (path_words path ++ 32 ∷ spans))) (word_before (path_words path) spans)
+    ∙ ap (spanned_fact version (path_words path)) (drop_past (path_words path) spans)
+    ∙ rw (path_again false path right.0, spans_again version span more right.1) refl
 
-order_fact_again : (root other : ℕ) (number : ℤ) → is_fact (Order root other number) ≡ true
+order_fact_again : (version : Version) (root other : ℕ) (number : ℤ) → is_fact version (Order root other number) ≡ true
     → order_fact (variable root ++ 32 ∷ (variable other ++ 32 ∷ signed_decimal number)) ≡ Ok (Order root other number)
-order_fact_again root other number fits =
+order_fact_again version root other number fits =
     let small = and_parts (is_small root) _ fits in
     let bound = and_parts (is_small other) (is_constant number) small.1 in
     rw (
@@ -91,14 +89,14 @@ order_fact_again root other number fits =
       constant_again number bound.1,
     ) refl
 
-fact_again : (fact : VariableFact) → is_fact fact ≡ true → fact_of (fact_words fact) ≡ Ok fact
-fact_again (Range path range) fits = range_fact_again path range fits
-fact_again (Defined path) fits = defined_again path fits
-fact_again (Stretch path first last) fits = stretch_again path first last fits
-fact_again (Order root other number) fits = order_fact_again root other number fits
+fact_again : (version : Version) (fact : VariableFact) → is_fact version fact ≡ true → fact_of version (fact_words fact) ≡ Ok fact
+fact_again version (Range path range) fits = range_fact_again version path range fits
+fact_again version (Defined path spans) fits = defined_again version path spans fits
+fact_again version (Order root other number) fits = order_fact_again version root other number fits
 
-pair_again : (pair : AliasPair) → is_claim (Alias pair) ≡ true → pair_of (variable pair.first ++ 32 ∷ variable pair.second) ≡ Ok pair
-pair_again pair fits =
+pair_again : (version : Version) (pair : AliasPair) → is_claim version (Alias pair) ≡ true
+    → pair_of (variable pair.first ++ 32 ∷ variable pair.second) ≡ Ok pair
+pair_again version pair fits =
     let small = and_parts (is_small pair.first) (is_small pair.second) fits in
     rw (
       parted_again (variable pair.first) (variable pair.second) (variable_above 32 pair.first (omega arith) small.0),
@@ -106,61 +104,59 @@ pair_again pair fits =
       number_again pair.second small.1,
     ) refl
 
-claim_again : (claim : Claim) → is_claim claim ≡ true → claim_of (claim_words claim) ≡ Ok claim
-claim_again (Alias pair) fits = rw (pair_again pair fits) refl
-claim_again (Change root) fits = rw (number_again root fits) refl
-claim_again (Entry fact) fits = rw (fact_again fact fits) refl
-claim_again (Exit fact) fits = rw (fact_again fact fits) refl
-claim_again (Fact fact) fits = rw (fact_again fact fits) refl
+claim_again : (version : Version) (claim : Claim) → is_claim version claim ≡ true → claim_of version (claim_words claim) ≡ Ok claim
+claim_again version (Alias pair) fits = rw (pair_again version pair fits) refl
+claim_again version (Change root) fits = rw (number_again root fits) refl
+claim_again version (Entry fact) fits = rw (fact_again version fact fits) refl
+claim_again version (Exit fact) fits = rw (fact_again version fact fits) refl
+claim_again version (Fact fact) fits = rw (fact_again version fact fits) refl
 
 -- no claim's line is a heading's
-claimed_again : (claim : Claim) → is_claim claim ≡ true → reading (claim_words claim) ≡ Ok (Claimed claim)
-claimed_again (Alias pair) fits = rw (claim_again (Alias pair) fits) refl
-claimed_again (Change root) fits = rw (claim_again (Change root) fits) refl
-claimed_again (Entry fact) fits = rw (claim_again (Entry fact) fits) refl
-claimed_again (Exit fact) fits = rw (claim_again (Exit fact) fits) refl
-claimed_again (Fact fact) fits = rw (claim_again (Fact fact) fits) refl
+claimed_again : (version : Version) (claim : Claim) → is_claim version claim ≡ true → reading version (claim_words claim) ≡ Ok (Claimed claim)
+claimed_again version (Alias pair) fits = rw (claim_again version (Alias pair) fits) refl
+claimed_again version (Change root) fits = rw (claim_again version (Change root) fits) refl
+claimed_again version (Entry fact) fits = rw (claim_again version (Entry fact) fits) refl
+claimed_again version (Exit fact) fits = rw (claim_again version (Exit fact) fits) refl
+claimed_again version (Fact fact) fits = rw (claim_again version (Fact fact) fits) refl
 
 -- a line that says something is read as that
-pub line_again : (content : Content) → is_content content ≡ true → reading (line_of content) ≡ Ok content
-line_again (Block number) fits = rw (number_again number fits) refl
-line_again (Loop number) fits = rw (number_again number fits) refl
-line_again (Claimed claim) fits = claimed_again claim fits
+pub line_again : (version : Version) (content : Content) → is_content version content ≡ true → reading version (line_of content) ≡ Ok content
+line_again version (Block number) fits = rw (number_again number fits) refl
+line_again version (Loop number) fits = rw (number_again number fits) refl
+line_again version (Claimed claim) fits = claimed_again version claim fits
 
 -- ---- lines
 
-fact_above : (fact : VariableFact) → is_fact fact ≡ true → are_above 10 (fact_words fact) ≡ true
-fact_above (Range path range) fits =
+fact_above : (version : Version) (fact : VariableFact) → is_fact version fact ≡ true → are_above 10 (fact_words fact) ≡ true
+fact_above version (Range path range) fits =
     let right = and_parts (is_path true path) _ fits in
     let low = and_parts (is_constant range.first) _ right.1 in
     let high = and_parts (is_constant range.last) (is_plain range) low.1 in
     above_append 10 (path_words path) _ (path_above true 10 path (omega arith) right.0)
     (above_append 10 (signed_decimal range.first) _ (constant_above 10 range.first (omega arith) low.0) (constant_above 10 range.last (omega arith) high.0))
-fact_above (Defined path) fits = path_above false 10 path (omega arith) fits
-fact_above (Stretch path first last) fits =
+fact_above version (Defined path spans) fits =
     let right = and_parts (is_path false path) _ fits in
-    let ends = and_parts (is_bound first) (is_bound last) right.1 in
-    above_append 10 (path_words path) _ (path_above false 10 path (omega arith) right.0)
-    (above_append 10 (bound_words first) _ (bound_above 10 first (omega arith) ends.0) (bound_above 10 last (omega arith) ends.1))
-fact_above (Order root other number) fits =
+    let few = and_parts (nat_le (length spans) (most_spans version)) (list_all is_span spans) right.1 in
+    above_append 10 (path_words path) _ (path_above false 10 path (omega arith) right.0) (spans_above 10 spans (omega arith) few.1)
+fact_above version (Order root other number) fits =
     let small = and_parts (is_small root) _ fits in
     let bound = and_parts (is_small other) (is_constant number) small.1 in
     above_append 10 (decimal root) _ (number_above 10 root (omega arith) small.0)
     (above_append 10 (decimal other) _ (number_above 10 other (omega arith) bound.0) (constant_above 10 number (omega arith) bound.1))
 
-claim_above : (claim : Claim) → is_claim claim ≡ true → are_above 10 (claim_words claim) ≡ true
-claim_above (Alias pair) fits =
+claim_above : (version : Version) (claim : Claim) → is_claim version claim ≡ true → are_above 10 (claim_words claim) ≡ true
+claim_above version (Alias pair) fits =
     let small = and_parts (is_small pair.first) (is_small pair.second) fits in
     above_append 10 (decimal pair.first) _ (number_above 10 pair.first (omega arith) small.0) (number_above 10 pair.second (omega arith) small.1)
-claim_above (Change root) fits = number_above 10 root (omega arith) fits
-claim_above (Entry fact) fits = fact_above fact fits
-claim_above (Exit fact) fits = fact_above fact fits
-claim_above (Fact fact) fits = fact_above fact fits
+claim_above version (Change root) fits = number_above 10 root (omega arith) fits
+claim_above version (Entry fact) fits = fact_above version fact fits
+claim_above version (Exit fact) fits = fact_above version fact fits
+claim_above version (Fact fact) fits = fact_above version fact fits
 
-line_above : (content : Content) → is_content content ≡ true → are_above 10 (line_of content) ≡ true
-line_above (Block number) fits = number_above 10 number (omega arith) fits
-line_above (Loop number) fits = number_above 10 number (omega arith) fits
-line_above (Claimed claim) fits = claim_above claim fits
+line_above : (version : Version) (content : Content) → is_content version content ≡ true → are_above 10 (line_of content) ≡ true
+line_above version (Block number) fits = number_above 10 number (omega arith) fits
+line_above version (Loop number) fits = number_above 10 number (omega arith) fits
+line_above version (Claimed claim) fits = claim_above version claim fits
 
 lines_at : (line rest : List ℕ) → are_above 10 line ≡ true → lines (line ++ 10 ∷ rest) ≡ record { bytes = line; ended = true } ∷ lines rest
 lines_at [] rest above = refl
@@ -170,5 +166,6 @@ lines_at (byte ∷ line) rest above =
     rw (other, lines_at line rest parts.1) refl
 
 -- a text that begins with a line that says something
-pub line_at : (content : Content) (rest : List ℕ) → is_content content ≡ true → lines (line_of content ++ 10 ∷ rest) ≡ said_line content ∷ lines rest
-line_at content rest fits = lines_at (line_of content) rest (line_above content fits)
+pub line_at : (version : Version) (content : Content) (rest : List ℕ) → is_content version content ≡ true
+    → lines (line_of content ++ 10 ∷ rest) ≡ said_line content ∷ lines rest
+line_at version content rest fits = lines_at (line_of content) rest (line_above version content fits)

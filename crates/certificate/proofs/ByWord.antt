@@ -9,6 +9,7 @@ use Rattle.std.proofs.lemmas.Bool.Decides.{nat_tests}
 use Rattle.std.proofs.lemmas.List.{append-nil}
 use Rattle.std.proofs.lemmas.Map.Keys.{le_from_is_le}
 use Rattle.domain.specs.Facts.{Fact as VariableFact}
+use Rattle.domain.specs.declared.versions.Version.{Version}
 use Rattle.certificate.specs.declared.AliasPair.{AliasPair}
 use Rattle.certificate.specs.Lines.{Claim, Alias, Change, Entry, Exit, Fact}
 use Rattle.certificate.specs.Contents.{are_claims, are_listed, claim_order, comes_behind, is_claim, is_right, may_stand, order_in_word, word_place}
@@ -130,29 +131,32 @@ place_up claim next up =
 le_true : (m n k : ℕ) → nat_le m n ≡ true → n ≤ k → nat_le m k ≡ true
 le_true m n k low up = grind (arith, nat_tests)
 
-abbrev listed : Bool → Option Claim → List Claim → Bool
-listed in_loop last claims = are_listed claim_order (λ claim. claim) (is_right in_loop) last claims
+abbrev listed : Version → Bool → Option Claim → List Claim → Bool
+listed version in_loop last claims = are_listed claim_order (λ claim. claim) (is_right version in_loop) last claims
 
-listed_parts : (in_loop : Bool) (last : Option Claim) (claim : Claim) (more : List Claim) → listed in_loop last (claim ∷ more) ≡ true
-    → (comes_behind claim_order last claim ≡ true) × (is_right in_loop claim ≡ true) × (listed in_loop (Some claim) more ≡ true)
-listed_parts in_loop last claim more is =
-    let parts = and_parts (comes_behind claim_order last claim) (is_right in_loop claim && listed in_loop (Some claim) more) is in
-    let rest = and_parts (is_right in_loop claim) (listed in_loop (Some claim) more) parts.1 in
+listed_parts : (version : Version) (in_loop : Bool) (last : Option Claim) (claim : Claim) (more : List Claim)
+    → listed version in_loop last (claim ∷ more) ≡ true
+    → (comes_behind claim_order last claim ≡ true) × (is_right version in_loop claim ≡ true) × (listed version in_loop (Some claim) more ≡ true)
+listed_parts version in_loop last claim more is =
+    let parts = and_parts (comes_behind claim_order last claim) (is_right version in_loop claim && listed version in_loop (Some claim) more) is in
+    let rest = and_parts (is_right version in_loop claim) (listed version in_loop (Some claim) more) parts.1 in
     (parts.0, rest.0, rest.1)
 
-all_from : (in_loop : Bool) (place : ℕ) (last : Claim) (claims : List Claim) → from_place place last ≡ true → listed in_loop (Some last) claims ≡ true
+all_from : (version : Version) (in_loop : Bool) (place : ℕ) (last : Claim) (claims : List Claim) → from_place place last ≡ true
+    → listed version in_loop (Some last) claims ≡ true
     → list_all (from_place place) claims ≡ true
-all_from in_loop place last [] low is = refl
-all_from in_loop place last (claim ∷ more) low is =
-    let parts = listed_parts in_loop (Some last) claim more is in
+all_from version in_loop place last [] low is = refl
+all_from version in_loop place last (claim ∷ more) low is =
+    let parts = listed_parts version in_loop (Some last) claim more is in
     let up = le_true place (word_place last) (word_place claim) low (place_up last claim parts.0) in
-    and_from _ _ up (all_from in_loop place claim more up parts.2)
+    and_from _ _ up (all_from version in_loop place claim more up parts.2)
 
-all_stand : (in_loop : Bool) (last : Option Claim) (claims : List Claim) → listed in_loop last claims ≡ true → list_all (may_stand in_loop) claims ≡ true
-all_stand in_loop last [] is = refl
-all_stand in_loop last (claim ∷ more) is =
-    let parts = listed_parts in_loop last claim more is in
-    and_from _ _ (and_parts (is_claim claim) (may_stand in_loop claim) parts.1).1 (all_stand in_loop (Some claim) more parts.2)
+all_stand : (version : Version) (in_loop : Bool) (last : Option Claim) (claims : List Claim) → listed version in_loop last claims ≡ true
+    → list_all (may_stand in_loop) claims ≡ true
+all_stand version in_loop last [] is = refl
+all_stand version in_loop last (claim ∷ more) is =
+    let parts = listed_parts version in_loop last claim more is in
+    and_from _ _ (and_parts (is_claim version claim) (may_stand in_loop claim) parts.1).1 (all_stand version in_loop (Some claim) more parts.2)
 
 change_first : (pairs : List AliasPair) (roots : List ℕ) (entry exit facts : List VariableFact) (root : ℕ) (more : List Claim) → pairs ≡ []
     → more ≡ kinds pairs roots entry exit facts → Change root ∷ more ≡ kinds pairs (root ∷ roots) entry exit facts
@@ -181,54 +185,57 @@ fact_first [] (root ∷ roots) entry exit facts fact more no_pairs no_roots no_e
 fact_first (pair ∷ pairs) roots entry exit facts fact more no_pairs no_roots no_entry no_exit is = absurd cc
 
 -- none of the claims behind one of a word is of a word before it
-module _ (in_loop : Bool) (last : Claim) (claims : List Claim) (is : listed in_loop (Some last) claims ≡ true) where
+module _ (version : Version) (in_loop : Bool) (last : Claim) (claims : List Claim) (is : listed version in_loop (Some last) claims ≡ true) where
   pairs_none : from_place 1 last ≡ true → pairs_in claims ≡ []
-  pairs_none low = picked_none as_pair (from_place 1) claims no_pair (all_from in_loop 1 last claims low is)
+  pairs_none low = picked_none as_pair (from_place 1) claims no_pair (all_from version in_loop 1 last claims low is)
 
   roots_none : from_place 2 last ≡ true → roots_in claims ≡ []
-  roots_none low = picked_none as_root (from_place 2) claims no_root (all_from in_loop 2 last claims low is)
+  roots_none low = picked_none as_root (from_place 2) claims no_root (all_from version in_loop 2 last claims low is)
 
   entry_none : from_place 3 last ≡ true → entry_in claims ≡ []
-  entry_none low = picked_none as_entry (from_place 3) claims no_entry (all_from in_loop 3 last claims low is)
+  entry_none low = picked_none as_entry (from_place 3) claims no_entry (all_from version in_loop 3 last claims low is)
 
   exit_none : from_place 4 last ≡ true → exit_in claims ≡ []
-  exit_none low = picked_none as_exit (from_place 4) claims no_exit (all_from in_loop 4 last claims low is)
+  exit_none low = picked_none as_exit (from_place 4) claims no_exit (all_from version in_loop 4 last claims low is)
 
-listed_again : (in_loop : Bool) (last : Option Claim) (claims : List Claim) → listed in_loop last claims ≡ true → claims ≡ kinds_in claims
-listed_again in_loop last [] is = refl
-listed_again in_loop last (Alias pair ∷ more) is =
-    ap (λ claims. Alias pair ∷ claims) (listed_again in_loop (Some (Alias pair)) more (listed_parts in_loop last (Alias pair) more is).2)
-listed_again in_loop last (Change root ∷ more) is =
-    let rest = (listed_parts in_loop last (Change root) more is).2 in
-    change_first _ _ _ _ _ root more (pairs_none in_loop (Change root) more rest refl) (listed_again in_loop (Some (Change root)) more rest)
-listed_again in_loop last (Entry fact ∷ more) is =
-    let rest = (listed_parts in_loop last (Entry fact) more is).2 in
-    entry_first _ _ _ _ _ fact more (pairs_none in_loop (Entry fact) more rest refl) (roots_none in_loop (Entry fact) more rest refl)
-    (listed_again in_loop (Some (Entry fact)) more rest)
-listed_again in_loop last (Exit fact ∷ more) is =
-    let rest = (listed_parts in_loop last (Exit fact) more is).2 in
-    exit_first _ _ _ _ _ fact more (pairs_none in_loop (Exit fact) more rest refl) (roots_none in_loop (Exit fact) more rest refl)
-    (entry_none in_loop (Exit fact) more rest refl) (listed_again in_loop (Some (Exit fact)) more rest)
-listed_again in_loop last (Fact fact ∷ more) is =
-    let rest = (listed_parts in_loop last (Fact fact) more is).2 in
-    fact_first _ _ _ _ _ fact more (pairs_none in_loop (Fact fact) more rest refl) (roots_none in_loop (Fact fact) more rest refl)
-    (entry_none in_loop (Fact fact) more rest refl) (exit_none in_loop (Fact fact) more rest refl) (listed_again in_loop (Some (Fact fact)) more rest)
+listed_again : (version : Version) (in_loop : Bool) (last : Option Claim) (claims : List Claim) → listed version in_loop last claims ≡ true
+    → claims ≡ kinds_in claims
+listed_again version in_loop last [] is = refl
+listed_again version in_loop last (Alias pair ∷ more) is =
+    ap (λ claims. Alias pair ∷ claims) (listed_again version in_loop (Some (Alias pair)) more (listed_parts version in_loop last (Alias pair) more is).2)
+listed_again version in_loop last (Change root ∷ more) is =
+    let rest = (listed_parts version in_loop last (Change root) more is).2 in
+    change_first _ _ _ _ _ root more (pairs_none version in_loop (Change root) more rest refl) (listed_again version in_loop (Some (Change root)) more rest)
+listed_again version in_loop last (Entry fact ∷ more) is =
+    let rest = (listed_parts version in_loop last (Entry fact) more is).2 in
+    entry_first _ _ _ _ _ fact more (pairs_none version in_loop (Entry fact) more rest refl) (roots_none version in_loop (Entry fact) more rest refl)
+    (listed_again version in_loop (Some (Entry fact)) more rest)
+listed_again version in_loop last (Exit fact ∷ more) is =
+    let rest = (listed_parts version in_loop last (Exit fact) more is).2 in
+    exit_first _ _ _ _ _ fact more (pairs_none version in_loop (Exit fact) more rest refl) (roots_none version in_loop (Exit fact) more rest refl)
+    (entry_none version in_loop (Exit fact) more rest refl) (listed_again version in_loop (Some (Exit fact)) more rest)
+listed_again version in_loop last (Fact fact ∷ more) is =
+    let rest = (listed_parts version in_loop last (Fact fact) more is).2 in
+    fact_first _ _ _ _ _ fact more (pairs_none version in_loop (Fact fact) more rest refl) (roots_none version in_loop (Fact fact) more rest refl)
+    (entry_none version in_loop (Fact fact) more rest refl) (exit_none version in_loop (Fact fact) more rest refl)
+    (listed_again version in_loop (Some (Fact fact)) more rest)
 
 -- claims of a loop, in order, are its changes and then its facts
-pub loop_again : (claims : List Claim) → are_claims true claims ≡ true → claims ≡ map Change (roots_in claims) ++ map Fact (facts_in claims)
-loop_again claims is =
-    let stand = all_stand true None claims is in
-    listed_again true None claims is
+pub loop_again : (version : Version) (claims : List Claim) → are_claims version true claims ≡ true
+    → claims ≡ map Change (roots_in claims) ++ map Fact (facts_in claims)
+loop_again version claims is =
+    let stand = all_stand version true None claims is in
+    listed_again version true None claims is
     ∙ ap (λ pairs. kinds pairs (roots_in claims) (entry_in claims) (exit_in claims) (facts_in claims)) (picked_none as_pair _ claims loop_pair stand)
     ∙ ap (λ entry. kinds [] (roots_in claims) entry (exit_in claims) (facts_in claims)) (picked_none as_entry _ claims loop_entry stand)
     ∙ ap (λ exit. kinds [] (roots_in claims) [] exit (facts_in claims)) (picked_none as_exit _ claims loop_exit stand)
 
 -- claims of a block itself, in order, are its pairs, its changes, and its facts
-pub block_again : (claims : List Claim) → are_claims false claims ≡ true
+pub block_again : (version : Version) (claims : List Claim) → are_claims version false claims ≡ true
     → claims ≡ map Alias (pairs_in claims) ++ (map Change (roots_in claims) ++ (map Entry (entry_in claims) ++ map Exit (exit_in claims)))
-block_again claims is =
-    listed_again false None claims is
+block_again version claims is =
+    listed_again version false None claims is
     ∙ ap (kinds (pairs_in claims) (roots_in claims) (entry_in claims) (exit_in claims))
-    (picked_none as_fact _ claims block_fact (all_stand false None claims is))
+    (picked_none as_fact _ claims block_fact (all_stand version false None claims is))
     ∙ ap (λ exit. map Alias (pairs_in claims) ++ (map Change (roots_in claims) ++ (map Entry (entry_in claims) ++ exit)))
     (append-nil (map Exit (exit_in claims)))

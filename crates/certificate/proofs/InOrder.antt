@@ -3,6 +3,7 @@ use Rattle.std.proofs.Common.{◌≡◌, ℕ, Bool, true, false, not, ◌&&◌, 
 use Rattle.std.specs.List.{flat_map}
 use Rattle.std.specs.Option.{is_some}
 use Rattle.std.specs.Ordering.{nat_cmp}
+use Rattle.domain.specs.declared.versions.Version.{Version}
 use Rattle.certificate.specs.Lines.{Claim, Content, Block, Loop, Claimed}
 use Rattle.certificate.specs.Text.{Above}
 use Rattle.certificate.specs.Building.{is_content}
@@ -24,10 +25,10 @@ has_line (Loop number) (Claimed claim ∷ more) = true
 has_line (Claimed claim) more = true
 
 -- lines may stand below others
-abbrev pub orderly : Above → List Content → Bool
-orderly above [] = true
-orderly above (content ∷ more) =
-    is_content content && (admits above content && (has_line content more && orderly (below above content) more))
+abbrev pub orderly : Version → Above → List Content → Bool
+orderly version above [] = true
+orderly version above (content ∷ more) =
+    is_content version content && (admits above content && (has_line content more && orderly version (below above content) more))
 
 -- nothing more is said of a loop or a block itself, or of a block
 abbrev ends_claims : List Content → Bool
@@ -46,17 +47,19 @@ abbrev at : Option ℕ → Option ℕ → Option Claim → Above
 at block number claim = record { block = block; loop_number = number; claim = claim }
 
 -- what is said behind claims doesn't hang on them, and what is said behind a block not on its loops
-claims_forgotten : (b n : Option ℕ) (c d : Option Claim) (rest : List Content) → ends_claims rest ≡ true → orderly (at b n c) rest ≡ orderly (at b n d) rest
-claims_forgotten b n c d [] ends = refl
-claims_forgotten b n c d (Block number ∷ rest) ends = refl
-claims_forgotten b n c d (Loop number ∷ rest) ends = refl
-claims_forgotten b n c d (Claimed claim ∷ rest) ends = absurd cc
+claims_forgotten : (version : Version) (b n : Option ℕ) (c d : Option Claim) (rest : List Content) → ends_claims rest ≡ true
+    → orderly version (at b n c) rest ≡ orderly version (at b n d) rest
+claims_forgotten version b n c d [] ends = refl
+claims_forgotten version b n c d (Block number ∷ rest) ends = refl
+claims_forgotten version b n c d (Loop number ∷ rest) ends = refl
+claims_forgotten version b n c d (Claimed claim ∷ rest) ends = absurd cc
 
-section_forgotten : (b m n : Option ℕ) (c d : Option Claim) (rest : List Content) → ends_section rest ≡ true → orderly (at b m c) rest ≡ orderly (at b n d) rest
-section_forgotten b m n c d [] ends = refl
-section_forgotten b m n c d (Block number ∷ rest) ends = refl
-section_forgotten b m n c d (Loop number ∷ rest) ends = absurd cc
-section_forgotten b m n c d (Claimed claim ∷ rest) ends = absurd cc
+section_forgotten : (version : Version) (b m n : Option ℕ) (c d : Option Claim) (rest : List Content) → ends_section rest ≡ true
+    → orderly version (at b m c) rest ≡ orderly version (at b n d) rest
+section_forgotten version b m n c d [] ends = refl
+section_forgotten version b m n c d (Block number ∷ rest) ends = refl
+section_forgotten version b m n c d (Loop number ∷ rest) ends = absurd cc
+section_forgotten version b m n c d (Claimed claim ∷ rest) ends = absurd cc
 
 -- ---- claims
 
@@ -69,14 +72,14 @@ claim_and true false false claims rest = refl
 claim_and false stands true claims rest = refl
 claim_and false stands false claims rest = refl
 
-claims_in_order : (b : ℕ) (n : Option ℕ) (last : Option Claim) (claims : List Claim) (rest : List Content) → ends_claims rest ≡ true
-    → orderly (at (Some b) n last) (map Claimed claims ++ rest)
-    ≡ (are_listed claim_order (λ claim. claim) (is_right (is_some n)) last claims && orderly (at (Some b) n None) rest)
-claims_in_order b n last [] rest ends = claims_forgotten (Some b) n last None rest ends
-claims_in_order b n last (claim ∷ claims) rest ends =
-    ap (λ more. is_claim claim && ((may_stand (is_some n) claim && comes_behind claim_order last claim) && more))
-    (claims_in_order b n (Some claim) claims rest ends)
-    ∙ claim_and (is_claim claim) (may_stand (is_some n) claim) (comes_behind claim_order last claim) _ _
+claims_in_order : (version : Version) (b : ℕ) (n : Option ℕ) (last : Option Claim) (claims : List Claim) (rest : List Content) → ends_claims rest ≡ true
+    → orderly version (at (Some b) n last) (map Claimed claims ++ rest)
+    ≡ (are_listed claim_order (λ claim. claim) (is_right version (is_some n)) last claims && orderly version (at (Some b) n None) rest)
+claims_in_order version b n last [] rest ends = claims_forgotten version (Some b) n last None rest ends
+claims_in_order version b n last (claim ∷ claims) rest ends =
+    ap (λ more. is_claim version claim && ((may_stand (is_some n) claim && comes_behind claim_order last claim) && more))
+    (claims_in_order version b n (Some claim) claims rest ends)
+    ∙ claim_and (is_claim version claim) (may_stand (is_some n) claim) (comes_behind claim_order last claim) _ _
 
 -- ---- loops
 
@@ -96,17 +99,17 @@ loop_and true false some claims rest = refl
 loop_and false true some claims rest = refl
 loop_and false false some claims rest = refl
 
-loop_in_order : (b : ℕ) (n : Option ℕ) (last : Option Claim) (claims : LoopClaims) (rest : List Content) → ends_claims rest ≡ true
-    → orderly (at (Some b) n last) (lines_of_loop claims ++ rest)
-    ≡ (comes_behind nat_cmp n claims.number && (is_loop claims && orderly (at (Some b) (Some claims.number) None) rest))
-loop_in_order b n last claims rest ends =
+loop_in_order : (version : Version) (b : ℕ) (n : Option ℕ) (last : Option Claim) (claims : LoopClaims) (rest : List Content) → ends_claims rest ≡ true
+    → orderly version (at (Some b) n last) (lines_of_loop claims ++ rest)
+    ≡ (comes_behind nat_cmp n claims.number && (is_loop version claims && orderly version (at (Some b) (Some claims.number) None) rest))
+loop_in_order version b n last claims rest ends =
     let all = claims_of_loop claims in
     ap (λ some. is_small claims.number && (comes_behind nat_cmp n claims.number &&
-    (some && orderly (at (Some b) (Some claims.number) None) (map Claimed all ++ rest)))) (loop_has_line claims.number all rest ends)
+    (some && orderly version (at (Some b) (Some claims.number) None) (map Claimed all ++ rest)))) (loop_has_line claims.number all rest ends)
     ∙ ap (λ more. is_small claims.number && (comes_behind nat_cmp n claims.number && (not (is_empty all) && more)))
-    (claims_in_order b (Some claims.number) None all rest ends)
-    ∙ loop_and (is_small claims.number) (comes_behind nat_cmp n claims.number) (not (is_empty all)) (are_claims true all)
-    (orderly (at (Some b) (Some claims.number) None) rest)
+    (claims_in_order version b (Some claims.number) None all rest ends)
+    ∙ loop_and (is_small claims.number) (comes_behind nat_cmp n claims.number) (not (is_empty all)) (are_claims version true all)
+    (orderly version (at (Some b) (Some claims.number) None) rest)
 
 section_ends_claims : (rest : List Content) → ends_section rest ≡ true → ends_claims rest ≡ true
 section_ends_claims [] ends = refl
@@ -123,16 +126,17 @@ and_and true true more rest = refl
 and_and true false more rest = refl
 and_and false right more rest = refl
 
-loops_in_order : (b : ℕ) (n : Option ℕ) (last : Option Claim) (loops : List LoopClaims) (rest : List Content) → ends_section rest ≡ true
-    → orderly (at (Some b) n last) (flat_map lines_of_loop loops ++ rest)
-    ≡ (are_listed nat_cmp (λ claims. claims.number) is_loop n loops && orderly (at (Some b) None None) rest)
-loops_in_order b n last [] rest ends = section_forgotten (Some b) n None last None rest ends
-loops_in_order b n last (claims ∷ loops) rest ends =
-    ap (orderly (at (Some b) n last)) (append_assoc (lines_of_loop claims) (flat_map lines_of_loop loops) rest)
-    ∙ loop_in_order b n last claims (flat_map lines_of_loop loops ++ rest) (loops_end_claims loops rest ends)
-    ∙ ap (λ more. comes_behind nat_cmp n claims.number && (is_loop claims && more)) (loops_in_order b (Some claims.number) None loops rest ends)
-    ∙ and_and (comes_behind nat_cmp n claims.number) (is_loop claims) (are_listed nat_cmp (λ claims. claims.number) is_loop (Some claims.number) loops)
-    (orderly (at (Some b) None None) rest)
+loops_in_order : (version : Version) (b : ℕ) (n : Option ℕ) (last : Option Claim) (loops : List LoopClaims) (rest : List Content) → ends_section rest ≡ true
+    → orderly version (at (Some b) n last) (flat_map lines_of_loop loops ++ rest)
+    ≡ (are_listed nat_cmp (λ claims. claims.number) (is_loop version) n loops && orderly version (at (Some b) None None) rest)
+loops_in_order version b n last [] rest ends = section_forgotten version (Some b) n None last None rest ends
+loops_in_order version b n last (claims ∷ loops) rest ends =
+    ap (orderly version (at (Some b) n last)) (append_assoc (lines_of_loop claims) (flat_map lines_of_loop loops) rest)
+    ∙ loop_in_order version b n last claims (flat_map lines_of_loop loops ++ rest) (loops_end_claims loops rest ends)
+    ∙ ap (λ more. comes_behind nat_cmp n claims.number && (is_loop version claims && more)) (loops_in_order version b (Some claims.number) None loops rest ends)
+    ∙ and_and (comes_behind nat_cmp n claims.number) (is_loop version claims)
+    (are_listed nat_cmp (λ claims. claims.number) (is_loop version) (Some claims.number) loops)
+    (orderly version (at (Some b) None None) rest)
 
 -- ---- sections
 
@@ -154,34 +158,35 @@ section_and true false some claims loops rest = refl
 section_and false true some claims loops rest = refl
 section_and false false some claims loops rest = refl
 
-section_in_order : (b n : Option ℕ) (last : Option Claim) (section : Section) (rest : List Content) → ends_section rest ≡ true
-    → orderly (at b n last) (lines_of_section section ++ rest)
-    ≡ (comes_behind nat_cmp b section.block && (is_section section && orderly (at (Some section.block) None None) rest))
-section_in_order b n last section rest ends =
+section_in_order : (version : Version) (b n : Option ℕ) (last : Option Claim) (section : Section) (rest : List Content) → ends_section rest ≡ true
+    → orderly version (at b n last) (lines_of_section section ++ rest)
+    ≡ (comes_behind nat_cmp b section.block && (is_section version section && orderly version (at (Some section.block) None None) rest))
+section_in_order version b n last section rest ends =
     let all = claims_of_block section in
     let more = flat_map lines_of_loop section.loops ++ rest in
     let some = not (is_empty all && is_empty section.loops) in
     let front : (Bool → Bool → Bool) = λ has more. is_small section.block && (comes_behind nat_cmp b section.block && (has && more)) in
-    ap (λ lines. front (has_line (Block section.block) lines) (orderly (at (Some section.block) None None) lines))
+    ap (λ lines. front (has_line (Block section.block) lines) (orderly version (at (Some section.block) None None) lines))
     (append_assoc (map Claimed all) (flat_map lines_of_loop section.loops) rest)
-    ∙ ap (λ has. front has (orderly (at (Some section.block) None None) (map Claimed all ++ more)))
+    ∙ ap (λ has. front has (orderly version (at (Some section.block) None None) (map Claimed all ++ more)))
     (section_has_line section.block all section.loops rest ends)
-    ∙ ap (front some) (claims_in_order section.block None None all more (loops_end_claims section.loops rest ends))
-    ∙ ap (λ loops. front some (are_claims false all && loops)) (loops_in_order section.block None None section.loops rest ends)
-    ∙ section_and (is_small section.block) (comes_behind nat_cmp b section.block) some (are_claims false all)
-    (are_listed nat_cmp (λ claims. claims.number) is_loop None section.loops) (orderly (at (Some section.block) None None) rest)
+    ∙ ap (front some) (claims_in_order version section.block None None all more (loops_end_claims section.loops rest ends))
+    ∙ ap (λ loops. front some (are_claims version false all && loops)) (loops_in_order version section.block None None section.loops rest ends)
+    ∙ section_and (is_small section.block) (comes_behind nat_cmp b section.block) some (are_claims version false all)
+    (are_listed nat_cmp (λ claims. claims.number) (is_loop version) None section.loops) (orderly version (at (Some section.block) None None) rest)
 
 sections_end : (sections : List Section) → ends_section (lines_of sections) ≡ true
 sections_end [] = refl
 sections_end (section ∷ sections) = refl
 
-sections_in_order : (b n : Option ℕ) (last : Option Claim) (sections : List Section)
-    → orderly (at b n last) (lines_of sections) ≡ are_listed nat_cmp (λ section. section.block) is_section b sections
-sections_in_order b n last [] = refl
-sections_in_order b n last (section ∷ sections) =
-    section_in_order b n last section (lines_of sections) (sections_end sections)
-    ∙ ap (λ more. comes_behind nat_cmp b section.block && (is_section section && more)) (sections_in_order (Some section.block) None None sections)
+sections_in_order : (version : Version) (b n : Option ℕ) (last : Option Claim) (sections : List Section)
+    → orderly version (at b n last) (lines_of sections) ≡ are_listed nat_cmp (λ section. section.block) (is_section version) b sections
+sections_in_order version b n last [] = refl
+sections_in_order version b n last (section ∷ sections) =
+    section_in_order version b n last section (lines_of sections) (sections_end sections)
+    ∙ ap (λ more. comes_behind nat_cmp b section.block && (is_section version section && more))
+    (sections_in_order version (Some section.block) None None sections)
 
 -- the lines of sections stand where they may exactly if the sections are in order
-pub in_order : (sections : List Section) → orderly nothing (lines_of sections) ≡ are_in_order sections
-in_order sections = sections_in_order None None None sections
+pub in_order : (version : Version) (sections : List Section) → orderly version nothing (lines_of sections) ≡ are_in_order version sections
+in_order version sections = sections_in_order version None None None sections

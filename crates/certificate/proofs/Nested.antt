@@ -4,6 +4,7 @@ use Rattle.std.specs.List.{flat_map}
 use Rattle.std.specs.Option.{is_some}
 use Rattle.std.proofs.lemmas.Bool.{and_from, and_parts}
 use Rattle.std.proofs.lemmas.List.{append-nil}
+use Rattle.domain.specs.declared.versions.Version.{Version}
 use Rattle.certificate.specs.Lines.{Claim, Alias, Change, Entry, Exit, Fact, Content, Block, Loop, Claimed}
 use Rattle.certificate.specs.Text.{Above}
 use Rattle.certificate.specs.Building.{added, begun, built, in_last, in_loop, in_section, is_content, with_claim}
@@ -141,62 +142,66 @@ parts_of (content ∷ more) = with_line content (parts_of more)
 abbrev said_by : Parts → List Content
 said_by parts = map Claimed parts.claims ++ (flat_map lines_of_loop parts.loops ++ lines_of parts.sections)
 
-orderly_parts : (above : Above) (content : Content) (more : List Content) → orderly above (content ∷ more) ≡ true
-    → (is_content content ≡ true) × (admits above content ≡ true) × (orderly (below above content) more ≡ true)
-orderly_parts above content more is =
-    let first = and_parts (is_content content) (admits above content && (has_line content more && orderly (below above content) more)) is in
-    let admitted = and_parts (admits above content) (has_line content more && orderly (below above content) more) first.1 in
-    (first.0, admitted.0, (and_parts (has_line content more) (orderly (below above content) more) admitted.1).1)
+orderly_parts : (version : Version) (above : Above) (content : Content) (more : List Content) → orderly version above (content ∷ more) ≡ true
+    → (is_content version content ≡ true) × (admits above content ≡ true) × (orderly version (below above content) more ≡ true)
+orderly_parts version above content more is =
+    let first = and_parts (is_content version content) (admits above content && (has_line content more && orderly version (below above content) more)) is in
+    let admitted = and_parts (admits above content) (has_line content more && orderly version (below above content) more) first.1 in
+    (first.0, admitted.0, (and_parts (has_line content more) (orderly version (below above content) more) admitted.1).1)
 
 -- the claims before the first heading are in order
-claims_listed : (above : Above) (lines : List Content) → orderly above lines ≡ true
-    → are_listed claim_order (λ claim. claim) (is_right (is_some above.loop_number)) above.claim (parts_of lines).claims ≡ true
-claims_listed above [] is = refl
-claims_listed above (Block number ∷ more) is = refl
-claims_listed above (Loop number ∷ more) is = refl
-claims_listed above (Claimed claim ∷ more) is =
-    let parts = orderly_parts above (Claimed claim) more is in
+claims_listed : (version : Version) (above : Above) (lines : List Content) → orderly version above lines ≡ true
+    → are_listed claim_order (λ claim. claim) (is_right version (is_some above.loop_number)) above.claim (parts_of lines).claims ≡ true
+claims_listed version above [] is = refl
+claims_listed version above (Block number ∷ more) is = refl
+claims_listed version above (Loop number ∷ more) is = refl
+claims_listed version above (Claimed claim ∷ more) is =
+    let parts = orderly_parts version above (Claimed claim) more is in
     let stands = and_parts (may_stand (is_some above.loop_number) claim) (comes_behind claim_order above.claim claim)
     (and_parts (is_some above.block) (may_stand (is_some above.loop_number) claim && comes_behind claim_order above.claim claim) parts.1).1 in
-    and_from _ _ stands.1 (and_from _ _ (and_from _ _ parts.0 stands.0) (claims_listed (below above (Claimed claim)) more parts.2))
+    and_from _ _ stands.1 (and_from _ _ (and_from _ _ parts.0 stands.0) (claims_listed version (below above (Claimed claim)) more parts.2))
 
 -- lines that may stand below the heading of a text begin with no claim and no loop
-begin_with_block : (lines : List Content) → orderly nothing lines ≡ true → ((parts_of lines).claims ≡ []) × ((parts_of lines).loops ≡ [])
-begin_with_block [] is = (refl, refl)
-begin_with_block (Block number ∷ more) is = (refl, refl)
-begin_with_block (Loop number ∷ more) is = let never : false ≡ true = (orderly_parts nothing (Loop number) more is).1 in absurd cc
-begin_with_block (Claimed claim ∷ more) is = let never : false ≡ true = (orderly_parts nothing (Claimed claim) more is).1 in absurd cc
+begin_with_block : (version : Version) (lines : List Content) → orderly version nothing lines ≡ true
+    → ((parts_of lines).claims ≡ []) × ((parts_of lines).loops ≡ [])
+begin_with_block version [] is = (refl, refl)
+begin_with_block version (Block number ∷ more) is = (refl, refl)
+begin_with_block version (Loop number ∷ more) is = let never : false ≡ true = (orderly_parts version nothing (Loop number) more is).1 in absurd cc
+begin_with_block version (Claimed claim ∷ more) is = let never : false ≡ true = (orderly_parts version nothing (Claimed claim) more is).1 in absurd cc
 
 -- lines in order are those of their parts
-said_again : (above : Above) (lines : List Content) → orderly above lines ≡ true → lines ≡ said_by (parts_of lines)
-said_again above [] is = refl
-said_again above (Block number ∷ more) is =
-    let rest = (orderly_parts above (Block number) more is).2 in
+said_again : (version : Version) (above : Above) (lines : List Content) → orderly version above lines ≡ true → lines ≡ said_by (parts_of lines)
+said_again version above [] is = refl
+said_again version above (Block number ∷ more) is =
+    let rest = (orderly_parts version above (Block number) more is).2 in
     let parts = parts_of more in
     let loops = flat_map lines_of_loop parts.loops in
     ap (λ lines. Block number ∷ lines)
-    (said_again (below above (Block number)) more rest
-    ∙ ap (λ claims. map Claimed claims ++ (loops ++ lines_of parts.sections)) (block_again parts.claims (claims_listed (below above (Block number)) more rest))
+    (said_again version (below above (Block number)) more rest
+    ∙ ap (λ claims. map Claimed claims ++ (loops ++ lines_of parts.sections))
+    (block_again version parts.claims (claims_listed version (below above (Block number)) more rest))
     ∙ sym (append_assoc (map Claimed (claims_of_block (section_in number parts))) loops (lines_of parts.sections)))
-said_again above (Loop number ∷ more) is =
-    let rest = (orderly_parts above (Loop number) more is).2 in
+said_again version above (Loop number ∷ more) is =
+    let rest = (orderly_parts version above (Loop number) more is).2 in
     let parts = parts_of more in
     let loops = flat_map lines_of_loop parts.loops in
     let claims = map Claimed (claims_of_loop (loop_in number parts)) in
     ap (λ lines. Loop number ∷ lines)
-    (said_again (below above (Loop number)) more rest
-    ∙ ap (λ claims. map Claimed claims ++ (loops ++ lines_of parts.sections)) (loop_again parts.claims (claims_listed (below above (Loop number)) more rest))
+    (said_again version (below above (Loop number)) more rest
+    ∙ ap (λ claims. map Claimed claims ++ (loops ++ lines_of parts.sections))
+    (loop_again version parts.claims (claims_listed version (below above (Loop number)) more rest))
     ∙ sym (append_assoc claims loops (lines_of parts.sections)))
-said_again above (Claimed claim ∷ more) is =
-    ap (λ lines. Claimed claim ∷ lines) (said_again (below above (Claimed claim)) more (orderly_parts above (Claimed claim) more is).2)
+said_again version above (Claimed claim ∷ more) is =
+    ap (λ lines. Claimed claim ∷ lines) (said_again version (below above (Claimed claim)) more (orderly_parts version above (Claimed claim) more is).2)
 
 -- lines in order below the heading are those of sections
-pub lines_of_sections : (lines : List Content) → orderly nothing lines ≡ true → (sections : List Section) × (lines ≡ lines_of sections)
-lines_of_sections lines is =
+pub lines_of_sections : (version : Version) (lines : List Content) → orderly version nothing lines ≡ true
+    → (sections : List Section) × (lines ≡ lines_of sections)
+lines_of_sections version lines is =
     let parts = parts_of lines in
-    let none = begin_with_block lines is in (
+    let none = begin_with_block version lines is in (
       parts.sections,
-      said_again nothing lines is
+      said_again version nothing lines is
           ∙ ap (λ claims. map Claimed claims ++ (flat_map lines_of_loop parts.loops ++ lines_of parts.sections)) none.0
           ∙ ap (λ loops. flat_map lines_of_loop loops ++ lines_of parts.sections) none.1,
     )

@@ -1,27 +1,31 @@
 -- What a line says, and the line that says it.
 use Rattle.std.proofs.Common.{◌≡◌, ℕ, suc, ℤ, pos, Bool, true, false, not, ◌&&◌, int_le, int_lt, ◌==◌, List, ◌∷◌, ◌++◌, take, drop, Option}
-use Rattle.std.proofs.Common.{Some, None, Result, Ok, Err, refl, sym, ap, subst, ◌∙◌, arith, inl, inr, codes, decimal}
+use Rattle.std.proofs.Common.{[], nat_le, Some, None, Result, Ok, Err, refl, sym, ap, subst, ◌∙◌, arith, inl, inr, codes, decimal}
 use Rattle.std.specs.Bool.{if◌then◌else◌}
 use Rattle.std.specs.List.{position}
 use Rattle.std.specs.Ordering.{int_eq}
 use Rattle.std.specs.Fmt.{signed_decimal}
 use Rattle.std.proofs.lemmas.Bool.{and_from, and_parts}
 use Rattle.std.proofs.lemmas.Int.{ints}
+use Rattle.std.proofs.lemmas.List.{append-nil}
 use Rattle.domain.specs.Interval.{Interval, between}
-use Rattle.domain.specs.Facts.{Fact as VariableFact, Bound, Path}
-use Rattle.domain.specs.Facts.{Range, Defined, Stretch, Order}
+use Rattle.domain.specs.Facts.{Fact as VariableFact, Path, Span}
+use Rattle.domain.specs.Facts.{Range, Defined, Order}
+use Rattle.domain.specs.Versions.{most_spans}
+use Rattle.domain.specs.declared.versions.Version.{Version}
+use Rattle.domain.specs.declared.versions.Version.TheVariants.{One}
 use Rattle.certificate.specs.declared.words.LineFault.{LineFault}
 use Rattle.certificate.specs.declared.words.LineFault.TheVariants.{NotInGrammar, OutOfRange}
-use Rattle.certificate.specs.Bounds.{bound_of}
+use Rattle.certificate.specs.Bounds.{spans_of}
 use Rattle.certificate.specs.declared.AliasPair.{AliasPair}
 use Rattle.certificate.specs.Building.{is_content}
 use Rattle.certificate.specs.Contents.{is_claim, is_constant, is_fact, is_path, is_plain, is_small}
 use Rattle.certificate.specs.Lines.{Claim, Alias, Change, Entry, Exit, Fact, Content, Block, Loop, Claimed, claim_of, claim_words, pair_of}
 use Rattle.certificate.specs.Lines.{defined_at, defined_fact, fact_of, fact_words, line_of, order_fact, range_fact, range_of}
-use Rattle.certificate.specs.Lines.{reading, stretch_fact}
+use Rattle.certificate.specs.Lines.{reading, spanned_fact}
 use Rattle.certificate.specs.Paths.{path_of, path_words}
 use Rattle.certificate.specs.Words.{◌>>=◌, behind, both, constant_of, number_of, parted, variable, variable_of, when}
-use Rattle.certificate.proofs.BoundLaws.{bound_spelled}
+use Rattle.certificate.proofs.BoundLaws.{spans_spelled}
 use Rattle.certificate.proofs.Numerals.{behind_some, bound_ok, constant_spelled, ok_is, when_ok}
 use Rattle.certificate.proofs.PathLaws.{path_spelled}
 use Rattle.certificate.proofs.WordLaws.{both_ok, front_part, number_spelled, parted_spelled, variable_spelled}
@@ -41,18 +45,18 @@ range_plain first last false one less one_is is =
     let below : int_le first last ≡ true = grind (arith, ints) in
     (rw less refl, rw below refl)
 
-range_test : (path : Path) (first last : ℤ) (fact : VariableFact) (fault : Bool)
+range_test : (version : Version) (path : Path) (first last : ℤ) (fact : VariableFact) (fault : Bool)
     → (int_lt last first && not (int_eq first (pos 1) && int_eq last (pos 0))) ≡ fault
     → (if fault then Err OutOfRange else Ok (Range path (between first last))) ≡ Ok fact
     → is_path true path ≡ true → is_constant first ≡ true → is_constant last ≡ true
-    → (codes "range " ++ path_words path ++ 32 ∷ (signed_decimal first ++ 32 ∷ signed_decimal last) ≡ fact_words fact) × (is_fact fact ≡ true)
-range_test path first last fact true is e right low high = absurd cc
-range_test path first last fact false is e right low high =
+    → (codes "range " ++ path_words path ++ 32 ∷ (signed_decimal first ++ 32 ∷ signed_decimal last) ≡ fact_words fact) × (is_fact version fact ≡ true)
+range_test version path first last fact true is e right low high = absurd cc
+range_test version path first last fact false is e right low high =
     let plain = range_plain first last _ _ refl refl is in
     let same : Range path (record { first = first; last = last }) ≡ fact =
     ap (λ range. Range path range) (sym plain.0) ∙ ok_is (Range path (between first last)) fact e in
     let words = codes "range " ++ path_words path ++ 32 ∷ (signed_decimal first ++ 32 ∷ signed_decimal last) in
-    subst (λ fact. (words ≡ fact_words fact) × (is_fact fact ≡ true)) same
+    subst (λ fact. (words ≡ fact_words fact) × (is_fact version fact ≡ true)) same
     (refl, rw (right, low, high, plain.1) refl)
 
 -- a text in three parts, which spell something
@@ -60,9 +64,9 @@ three_parts : (words a rest b c x y z : List ℕ) → words ≡ a ++ 32 ∷ rest
     → words ≡ x ++ 32 ∷ (y ++ 32 ∷ z)
 three_parts words a rest b c x y z is rest_is a_is b_is c_is = rw (is, rest_is, a_is, b_is, c_is) refl
 
-range_fact_spelled : (words : List ℕ) (fact : VariableFact) → range_fact words ≡ Ok fact
-    → (codes "range " ++ words ≡ fact_words fact) × (is_fact fact ≡ true)
-range_fact_spelled words fact e =
+range_fact_spelled : (version : Version) (words : List ℕ) (fact : VariableFact) → range_fact words ≡ Ok fact
+    → (codes "range " ++ words ≡ fact_words fact) × (is_fact version fact ≡ true)
+range_fact_spelled version words fact e =
     let first = bound_ok (parted words) (λ first. parted first.1 >>= λ second. both (path_of true first.0)
     (both (constant_of second.0) (constant_of second.1)) >>= range_of) fact e in
     let second = bound_ok (parted first.0.1) (λ second. both (path_of true first.0.0)
@@ -73,14 +77,14 @@ range_fact_spelled words fact e =
     let path = path_spelled true first.0.0 parts.0.0 ends.0 in
     let low = constant_spelled second.0.0 parts.0.1.0 numbers.0 in
     let high = constant_spelled second.0.1 parts.0.1.1 numbers.1 in
-    let told = range_test parts.0.0 parts.0.1.0 parts.0.1.1 fact _ refl parts.2 path.1 low.1 high.1 in
+    let told = range_test version parts.0.0 parts.0.1.0 parts.0.1.1 fact _ refl parts.2 path.1 low.1 high.1 in
     let whole = three_parts words first.0.0 first.0.1 second.0.0 second.0.1 _ _ _ (parted_spelled words first.0.0 first.0.1 first.1)
     (parted_spelled first.0.1 second.0.0 second.0.1 second.1) path.0 low.0 high.0 in
     (ap (λ more. codes "range " ++ more) whole ∙ told.0, told.1)
 
-order_fact_spelled : (words : List ℕ) (fact : VariableFact) → order_fact words ≡ Ok fact
-    → (codes "order " ++ words ≡ fact_words fact) × (is_fact fact ≡ true)
-order_fact_spelled words fact e =
+order_fact_spelled : (version : Version) (words : List ℕ) (fact : VariableFact) → order_fact words ≡ Ok fact
+    → (codes "order " ++ words ≡ fact_words fact) × (is_fact version fact ≡ true)
+order_fact_spelled version words fact e =
     let made : ℕ × (ℕ × ℤ) → Result VariableFact LineFault = λ parts. Ok (Order parts.0 parts.1.0 parts.1.1) in
     let first = bound_ok (parted words) (λ first. parted first.1 >>= λ second. both (variable_of first.0)
     (both (variable_of second.0) (constant_of second.1)) >>= made) fact e in
@@ -94,63 +98,60 @@ order_fact_spelled words fact e =
     let number = constant_spelled second.0.1 parts.0.1.1 bound.1 in
     let whole = three_parts words first.0.0 first.0.1 second.0.0 second.0.1 _ _ _ (parted_spelled words first.0.0 first.0.1 first.1)
     (parted_spelled first.0.1 second.0.0 second.0.1 second.1) root.0 other.0 number.0 in
-    subst (λ fact. (codes "order " ++ words ≡ fact_words fact) × (is_fact fact ≡ true))
+    subst (λ fact. (codes "order " ++ words ≡ fact_words fact) × (is_fact version fact ≡ true))
     (ok_is (Order parts.0.0 parts.0.1.0 parts.0.1.1) fact parts.2)
     (ap (λ more. codes "order " ++ more) whole, and_from _ _ root.1 (and_from _ _ other.1 number.1))
 
-stretch_spelled : (words path bounds : List ℕ) (fact : VariableFact) → words ≡ path ++ 32 ∷ bounds → stretch_fact path bounds ≡ Ok fact
-    → (codes "defined " ++ words ≡ fact_words fact) × (is_fact fact ≡ true)
-stretch_spelled words path bounds fact is e =
-    let made : Path × (Bound × Bound) → Result VariableFact LineFault = λ parts. Ok (Stretch parts.0 parts.1.0 parts.1.1) in
-    let ends = bound_ok (parted bounds) (λ ends. both (path_of false path) (both (bound_of ends.0) (bound_of ends.1)) >>= made) fact e in
-    let parts = bound_ok (both (path_of false path) (both (bound_of ends.0.0) (bound_of ends.0.1))) made fact ends.2 in
-    let two = both_ok (path_of false path) (both (bound_of ends.0.0) (bound_of ends.0.1)) parts.0.0 parts.0.1 parts.1 in
-    let both_are = both_ok (bound_of ends.0.0) (bound_of ends.0.1) parts.0.1.0 parts.0.1.1 two.1 in
+spanned_spelled : (version : Version) (words path spans : List ℕ) (fact : VariableFact) → words ≡ path ++ 32 ∷ spans
+    → spanned_fact version path spans ≡ Ok fact → (codes "defined " ++ words ≡ fact_words fact) × (is_fact version fact ≡ true)
+spanned_spelled version words path spans fact is e =
+    let made : Path × List Span → Result VariableFact LineFault = λ parts. Ok (Defined parts.0 parts.1) in
+    let parts = bound_ok (both (path_of false path) (spans_of version spans)) made fact e in
+    let two = both_ok (path_of false path) (spans_of version spans) parts.0.0 parts.0.1 parts.1 in
     let path_is = path_spelled false path parts.0.0 two.0 in
-    let first = bound_spelled ends.0.0 parts.0.1.0 both_are.0 in
-    let last = bound_spelled ends.0.1 parts.0.1.1 both_are.1 in
-    let whole = three_parts words path bounds ends.0.0 ends.0.1 _ _ _ is (parted_spelled bounds ends.0.0 ends.0.1 ends.1) path_is.0 first.0 last.0 in
-    subst (λ fact. (codes "defined " ++ words ≡ fact_words fact) × (is_fact fact ≡ true))
-    (ok_is (Stretch parts.0.0 parts.0.1.0 parts.0.1.1) fact parts.2)
-    (ap (λ more. codes "defined " ++ more) whole, and_from _ _ path_is.1 (and_from _ _ first.1 last.1))
+    let spans_are = spans_spelled version spans parts.0.1 two.1 in
+    let whole = is ∙ ap (λ front. front ++ 32 ∷ spans) path_is.0 ∙ ap (λ rest. path_words parts.0.0 ++ rest) spans_are.0 in
+    subst (λ fact. (codes "defined " ++ words ≡ fact_words fact) × (is_fact version fact ≡ true)) (ok_is (Defined parts.0.0 parts.0.1) fact parts.2)
+    (ap (λ more. codes "defined " ++ more) whole, and_from _ _ path_is.1 spans_are.1)
 
-defined_part : (words : List ℕ) (o : Option ℕ) (fact : VariableFact) → position (λ byte. byte == 32) words ≡ o → defined_at words o ≡ Ok fact
-    → (codes "defined " ++ words ≡ fact_words fact) × (is_fact fact ≡ true)
-defined_part words None fact is e =
-    let path = bound_ok (path_of false words) (λ path. Ok (Defined path)) fact e in
+none_few : (version : Version) → nat_le 0 (most_spans version) ≡ true
+none_few One = refl
+
+defined_part : (version : Version) (words : List ℕ) (o : Option ℕ) (fact : VariableFact) → position (λ byte. byte == 32) words ≡ o
+    → defined_at version words o ≡ Ok fact → (codes "defined " ++ words ≡ fact_words fact) × (is_fact version fact ≡ true)
+defined_part version words None fact is e =
+    let path = bound_ok (path_of false words) (λ path. Ok (Defined path [])) fact e in
     let spelled = path_spelled false words path.0 path.1 in
-    subst (λ fact. (codes "defined " ++ words ≡ fact_words fact) × (is_fact fact ≡ true)) (ok_is (Defined path.0) fact path.2)
-    (ap (λ more. codes "defined " ++ more) spelled.0, spelled.1)
-defined_part words (Some end) fact is e =
-    stretch_spelled words (take end words) (drop (suc end) words) fact (front_part words (Some end) (take end words) (drop (suc end) words) is refl) e
+    subst (λ fact. (codes "defined " ++ words ≡ fact_words fact) × (is_fact version fact ≡ true)) (ok_is (Defined path.0 []) fact path.2)
+    (ap (λ more. codes "defined " ++ more) (spelled.0 ∙ sym (append-nil (path_words path.0))), and_from _ _ spelled.1 (and_from _ _ (none_few version) refl))
+defined_part version words (Some end) fact is e =
+    spanned_spelled version words (take end words) (drop (suc end) words) fact
+    (front_part words (Some end) (take end words) (drop (suc end) words) is refl) e
 
-defined_spelled : (words : List ℕ) (fact : VariableFact) → defined_fact words ≡ Ok fact
-    → (codes "defined " ++ words ≡ fact_words fact) × (is_fact fact ≡ true)
-defined_spelled words fact e = defined_part words _ fact refl e
-
-fact_spelled : (words : List ℕ) (fact : VariableFact) → fact_of words ≡ Ok fact → (words ≡ fact_words fact) × (is_fact fact ≡ true)
-fact_spelled words fact e =
-    elim (when_ok (behind (codes "defined ") words) defined_fact _ fact e) [
+fact_spelled : (version : Version) (words : List ℕ) (fact : VariableFact) → fact_of version words ≡ Ok fact
+    → (words ≡ fact_words fact) × (is_fact version fact ≡ true)
+fact_spelled version words fact e =
+    elim (when_ok (behind (codes "defined ") words) (defined_fact version) _ fact e) [
       | inl found ↦
-          let told = defined_spelled found.0 fact found.2 in (behind_some (codes "defined ") words found.0 found.1 ∙ told.0, told.1)
+          let told = defined_part version found.0 _ fact refl found.2 in (behind_some (codes "defined ") words found.0 found.1 ∙ told.0, told.1)
       | inr range ↦
           elim (when_ok (behind (codes "range ") words) range_fact _ fact range) [
             | inl found ↦
-                let told = range_fact_spelled found.0 fact found.2 in
+                let told = range_fact_spelled version found.0 fact found.2 in
                 (behind_some (codes "range ") words found.0 found.1 ∙ told.0, told.1)
             | inr order ↦
                 elim (when_ok (behind (codes "order ") words) order_fact (Err NotInGrammar) fact order) [
                   | inl found ↦
-                      let told = order_fact_spelled found.0 fact found.2 in
+                      let told = order_fact_spelled version found.0 fact found.2 in
                       (behind_some (codes "order ") words found.0 found.1 ∙ told.0, told.1)
                   | inr fault ↦ absurd cc
                 ]
           ]
     ]
 
-pair_spelled : (words : List ℕ) (pair : AliasPair) → pair_of words ≡ Ok pair
-    → (words ≡ variable pair.first ++ 32 ∷ variable pair.second) × (is_claim (Alias pair) ≡ true)
-pair_spelled words pair e =
+pair_spelled : (version : Version) (words : List ℕ) (pair : AliasPair) → pair_of words ≡ Ok pair
+    → (words ≡ variable pair.first ++ 32 ∷ variable pair.second) × (is_claim version (Alias pair) ≡ true)
+pair_spelled version words pair e =
     let made : ℕ × ℕ → Result AliasPair LineFault = λ roots. Ok (record { first = roots.0; second = roots.1 }) in
     let ends = bound_ok (parted words) (λ ends. both (variable_of ends.0) (variable_of ends.1) >>= made) pair e in
     let roots = bound_ok (both (variable_of ends.0.0) (variable_of ends.0.1)) made pair ends.2 in
@@ -159,7 +160,7 @@ pair_spelled words pair e =
     let second = variable_spelled ends.0.1 roots.0.1 two.1 in
     let whole = parted_spelled words ends.0.0 ends.0.1 ends.1 ∙ ap (λ front. front ++ 32 ∷ ends.0.1) first.0
     ∙ ap (λ rest. variable roots.0.0 ++ 32 ∷ rest) second.0 in
-    subst (λ pair. (words ≡ variable pair.first ++ 32 ∷ variable pair.second) × (is_claim (Alias pair) ≡ true))
+    subst (λ pair. (words ≡ variable pair.first ++ 32 ∷ variable pair.second) × (is_claim version (Alias pair) ≡ true))
     (ok_is (record { first = roots.0.0; second = roots.0.1 }) pair roots.2)
     (whole, and_from _ _ first.1 second.1)
 
@@ -186,30 +187,37 @@ module _ {C A : Type 0} (spelled : C → List ℕ) (is_right : C → Bool) (word
         | inr rest ↦ others rest
       ]
 
-no_words : (line : List ℕ) (claim : Claim) → (let fault : Result Claim LineFault = Err NotInGrammar in fault ≡ Ok claim)
-    → (line ≡ claim_words claim) × (is_claim claim ≡ true)
-no_words line claim e = absurd cc
+no_words : (version : Version) (line : List ℕ) (claim : Claim) → (let fault : Result Claim LineFault = Err NotInGrammar in fault ≡ Ok claim)
+    → (line ≡ claim_words claim) × (is_claim version claim ≡ true)
+no_words version line claim e = absurd cc
 
-claim_spelled : (line : List ℕ) (claim : Claim) → claim_of line ≡ Ok claim → (line ≡ claim_words claim) × (is_claim claim ≡ true)
-claim_spelled line claim e =
-    when_spelled claim_words is_claim (codes "alias ") Alias (λ pair. variable pair.first ++ 32 ∷ variable pair.second) (λ pair. is_claim (Alias pair))
-    (λ pair. refl) (λ pair. refl) pair_of pair_spelled line _ claim
-    (when_spelled claim_words is_claim (codes "change ") Change variable is_small (λ root. refl) (λ root. refl) variable_of variable_spelled line _ claim
-    (when_spelled claim_words is_claim (codes "entry ") Entry fact_words is_fact (λ fact. refl) (λ fact. refl) fact_of fact_spelled line _ claim
-    (when_spelled claim_words is_claim (codes "exit ") Exit fact_words is_fact (λ fact. refl) (λ fact. refl) fact_of fact_spelled line _ claim
-    (when_spelled claim_words is_claim (codes "fact ") Fact fact_words is_fact (λ fact. refl) (λ fact. refl) fact_of fact_spelled line _ claim
-    (no_words line claim))))) e
+claim_spelled : (version : Version) (line : List ℕ) (claim : Claim) → claim_of version line ≡ Ok claim
+    → (line ≡ claim_words claim) × (is_claim version claim ≡ true)
+claim_spelled version line claim e =
+    when_spelled claim_words (is_claim version) (codes "alias ") Alias (λ pair. variable pair.first ++ 32 ∷ variable pair.second)
+    (λ pair. is_claim version (Alias pair))
+    (λ pair. refl) (λ pair. refl) pair_of (pair_spelled version) line _ claim
+    (when_spelled claim_words (is_claim version) (codes "change ") Change variable is_small (λ root. refl) (λ root. refl)
+    variable_of variable_spelled line _ claim
+    (when_spelled claim_words (is_claim version) (codes "entry ") Entry fact_words (is_fact version) (λ fact. refl) (λ fact. refl)
+    (fact_of version) (fact_spelled version) line _ claim
+    (when_spelled claim_words (is_claim version) (codes "exit ") Exit fact_words (is_fact version) (λ fact. refl) (λ fact. refl)
+    (fact_of version) (fact_spelled version) line _ claim
+    (when_spelled claim_words (is_claim version) (codes "fact ") Fact fact_words (is_fact version) (λ fact. refl) (λ fact. refl)
+    (fact_of version) (fact_spelled version) line _ claim
+    (no_words version line claim))))) e
 
-claimed_spelled : (line : List ℕ) (content : Content) → (claim_of line >>= λ claim. Ok (Claimed claim)) ≡ Ok content
-    → (line ≡ line_of content) × (is_content content ≡ true)
-claimed_spelled line content e =
-    let told = bound_ok (claim_of line) (λ claim. Ok (Claimed claim)) content e in
-    subst (λ content. (line ≡ line_of content) × (is_content content ≡ true)) (ok_is (Claimed told.0) content told.2)
-    (claim_spelled line told.0 told.1)
+claimed_spelled : (version : Version) (line : List ℕ) (content : Content) → (claim_of version line >>= λ claim. Ok (Claimed claim)) ≡ Ok content
+    → (line ≡ line_of content) × (is_content version content ≡ true)
+claimed_spelled version line content e =
+    let told = bound_ok (claim_of version line) (λ claim. Ok (Claimed claim)) content e in
+    subst (λ content. (line ≡ line_of content) × (is_content version content ≡ true)) (ok_is (Claimed told.0) content told.2)
+    (claim_spelled version line told.0 told.1)
 
 -- a line that says something is the line of what it says, and its numbers are in range
-pub line_spelled : (line : List ℕ) (content : Content) → reading line ≡ Ok content → (line ≡ line_of content) × (is_content content ≡ true)
-line_spelled line content e =
-    when_spelled line_of is_content (codes "proc ") Block decimal is_small (λ number. refl) (λ number. refl) number_of number_spelled line _ content
-    (when_spelled line_of is_content (codes "loop ") Loop decimal is_small (λ number. refl) (λ number. refl) number_of number_spelled line _ content
-    (claimed_spelled line content)) e
+pub line_spelled : (version : Version) (line : List ℕ) (content : Content) → reading version line ≡ Ok content
+    → (line ≡ line_of content) × (is_content version content ≡ true)
+line_spelled version line content e =
+    when_spelled line_of (is_content version) (codes "proc ") Block decimal is_small (λ number. refl) (λ number. refl) number_of number_spelled line _ content
+    (when_spelled line_of (is_content version) (codes "loop ") Loop decimal is_small (λ number. refl) (λ number. refl) number_of number_spelled line _ content
+    (claimed_spelled version line content)) e

@@ -8,32 +8,33 @@ use Rattle.std.specs.Str.{bytes_eq}
 use Rattle.std.proofs.lemmas.Slice.Eq.{bytes_eq-Decides}
 use Rattle.memory.specs.Refused.{the_refusal}
 use Rattle.certificate.specs.declared.Certificate.{Certificate}
-use Rattle.certificate.specs.declared.Version.{Version}
-use Rattle.certificate.specs.declared.Version.TheVariants.{One}
+use Rattle.domain.specs.declared.versions.Version.{Version}
+use Rattle.domain.specs.declared.versions.Version.TheVariants.{One}
 use Rattle.certificate.specs.declared.fault.ReadFault.{ReadFault}
 use Rattle.certificate.specs.declared.fault.ReadFault.TheVariants as fault
 use Rattle.certificate.specs.Building.{built, is_content, said_line}
 use Rattle.certificate.specs.Contents.{IsReadAs, Section, are_in_order, lines_of, ended, heading, spelling}
 use Rattle.certificate.specs.Lines.{Content, line_of}
-use Rattle.certificate.specs.Text.{Line, fault_from, fault_of_lines, first_fault, heading_fault, lines, nothing, or_else}
+use Rattle.certificate.specs.Text.{Line, fault_behind, fault_from, fault_of_lines, first_fault, lines, nothing, version_of}
 use Rattle.certificate.proofs.Faults.{faultless-orderly, lines_again, orderly-faultless, orderly-fits, same_lines}
 use Rattle.certificate.proofs.InOrder.{in_order, orderly}
 use Rattle.certificate.proofs.Nested.{built_again, lines_of_sections}
 use Rattle.certificate.proofs.TextLines.{unlines, unlines-lines}
 
-abbrev heading_line : Line
-heading_line = record { bytes = codes "pcert 1"; ended = true }
+abbrev heading_line : Version → Line
+heading_line version = record { bytes = heading version; ended = true }
 
-heading_only : (bytes : List ℕ) (same : Bool) → bytes_eq bytes (codes "pcert 1") ≡ same
-    → (if same then None else Some (fault.FirstLine 1)) ≡ None → bytes ≡ codes "pcert 1"
-heading_only bytes true is none = (bytes_eq-Decides bytes (codes "pcert 1")).0 is
-heading_only bytes false is none = absurd cc
+heading_only : (bytes : List ℕ) (same : Bool) (version : Version) → bytes_eq bytes (codes "pcert 1") ≡ same
+    → (if same then Ok One else Err (fault.FirstLine 1)) ≡ Ok version → bytes ≡ heading version
+heading_only bytes true One is named = (bytes_eq-Decides bytes (codes "pcert 1")).0 is
+heading_only bytes false version is named = absurd cc
 
-ended_heading : (bytes : List ℕ) (ends : Bool) → heading_fault (record { bytes = bytes; ended = ends }) ≡ None
-    → ◌≡◌ {A = Line} (record { bytes = bytes; ended = ends }) heading_line
-ended_heading bytes true none =
-    ap (λ (b : List ℕ). let line : Line = record { bytes = b; ended = true } in line) (heading_only bytes (bytes_eq bytes (codes "pcert 1")) refl none)
-ended_heading bytes false none = absurd cc
+ended_heading : (bytes : List ℕ) (ends : Bool) (version : Version) → version_of (record { bytes = bytes; ended = ends }) ≡ Ok version
+    → ◌≡◌ {A = Line} (record { bytes = bytes; ended = ends }) (heading_line version)
+ended_heading bytes true version named =
+    ap (λ (b : List ℕ). let line : Line = record { bytes = b; ended = true } in line)
+    (heading_only bytes (bytes_eq bytes (codes "pcert 1")) version refl named)
+ended_heading bytes false version named = absurd cc
 
 unlines_said : (said : List Content) → unlines (map said_line said) ≡ flat_map (λ content. ended (line_of content)) said
 unlines_said [] = refl
@@ -43,39 +44,44 @@ unlines_said (content ∷ said) =
 
 -- a text whose lines are a heading and those of said is spelled so
 text_spelled : (text : List ℕ) (first : Line) (below : List Line) (said : List Content) (version : Version) → lines text ≡ first ∷ below
-    → heading_fault first ≡ None → below ≡ map said_line said
+    → version_of first ≡ Ok version → below ≡ map said_line said
     → text ≡ ended (heading version) ++ flat_map (λ content. ended (line_of content)) said
-text_spelled text first below said One text_is none below_is =
-    sym (unlines-lines text) ∙ ap unlines (text_is ∙ ap (λ line. line ∷ below) (ended_heading first.bytes first.ended none)
-    ∙ ap (λ more. heading_line ∷ more) below_is)
+text_spelled text first below said One text_is named below_is =
+    sym (unlines-lines text) ∙ ap unlines (text_is ∙ ap (λ line. line ∷ below) (ended_heading first.bytes first.ended One named)
+    ∙ ap (λ more. heading_line One ∷ more) below_is)
     ∙ ap (λ rest. codes "pcert 1" ++ 10 ∷ rest) (unlines_said said)
 
 -- sections that are read are in order, and the text is their spelling
 pub read_exactly : (text : List ℕ) (first : Line) (below : List Line) (said : List Content) (sections : List Section) (version : Version)
-    → lines text ≡ first ∷ below → heading_fault first ≡ None → fault_from 2 nothing below ≡ None
-    → list_all is_content said ≡ true → below ≡ map said_line said → sections ≡ built [] said
-    → (are_in_order sections ≡ true) × (text ≡ spelling version sections)
-read_exactly text first below said sections version text_is heading_is none fits below_is built_is =
-    let orders = faultless-orderly 2 nothing said fits (ap (fault_from 2 nothing) (sym below_is) ∙ none) in
-    let again = lines_of_sections said orders in
+    → lines text ≡ first ∷ below → version_of first ≡ Ok version → fault_from version 2 nothing below ≡ None
+    → list_all (is_content version) said ≡ true → below ≡ map said_line said → sections ≡ built [] said
+    → (are_in_order version sections ≡ true) × (text ≡ spelling version sections)
+read_exactly text first below said sections version text_is named none fits below_is built_is =
+    let orders = faultless-orderly version 2 nothing said fits (ap (fault_from version 2 nothing) (sym below_is) ∙ none) in
+    let again = lines_of_sections version said orders in
     let same : sections ≡ again.0 = built_is ∙ ap (built []) again.1 ∙ built_again again.0 in
     let said_are : said ≡ lines_of sections = again.1 ∙ ap lines_of (sym same) in (
-      sym (in_order sections) ∙ ap (orderly nothing) (sym said_are) ∙ orders,
-      text_spelled text first below said version text_is heading_is below_is
+      sym (in_order version sections) ∙ ap (orderly version nothing) (sym said_are) ∙ orders,
+      text_spelled text first below said version text_is named below_is
           ∙ ap (λ c. ended (heading version) ++ flat_map (λ content. ended (line_of content)) c) said_are,
     )
 
 -- the lines of a spelling
-spelling_lines : (version : Version) (sections : List Section) → are_in_order sections ≡ true
-    → (orderly nothing (lines_of sections) ≡ true) × (lines (spelling version sections) ≡ heading_line ∷ map said_line (lines_of sections))
+spelling_lines : (version : Version) (sections : List Section) → are_in_order version sections ≡ true
+    → (orderly version nothing (lines_of sections) ≡ true)
+    × (lines (spelling version sections) ≡ heading_line version ∷ map said_line (lines_of sections))
 spelling_lines One sections right =
-    let orders = in_order sections ∙ right in
-    (orders, ap (λ rest. heading_line ∷ rest) (lines_again (lines_of sections) (orderly-fits nothing (lines_of sections) orders)))
+    let orders = in_order One sections ∙ right in
+    (orders, ap (λ rest. heading_line One ∷ rest) (lines_again One (lines_of sections) (orderly-fits One nothing (lines_of sections) orders)))
 
-spelling_faultless : (version : Version) (sections : List Section) → are_in_order sections ≡ true → first_fault (spelling version sections) ≡ None
+named_again : (version : Version) → version_of (heading_line version) ≡ Ok version
+named_again One = refl
+
+spelling_faultless : (version : Version) (sections : List Section) → are_in_order version sections ≡ true → first_fault (spelling version sections) ≡ None
 spelling_faultless version sections right =
     let told = spelling_lines version sections right in
-    ap fault_of_lines told.1 ∙ orderly-faultless 2 nothing (lines_of sections) told.0
+    ap fault_of_lines told.1 ∙ ap (λ named. fault_behind named (map said_line (lines_of sections))) (named_again version)
+    ∙ orderly-faultless version 2 nothing (lines_of sections) told.0
 
 none_is : (error : ReadFault) → (let o : Option ReadFault = Some error in o ≡ None) → ⊥
 none_is error same = absurd cc
@@ -90,27 +96,32 @@ only_memory (fault.Unended line) told = absurd (none_is _ (told (λ same. absurd
 
 -- a text that spells sections in order is refused for want of memory alone
 pub refused_for_memory : (error : ReadFault) (text : List ℕ) (version : Version) (sections : List Section)
-    → (error ≢ fault.Memory the_refusal → Some error ≡ first_fault text) → are_in_order sections ≡ true → text ≡ spelling version sections
+    → (error ≢ fault.Memory the_refusal → Some error ≡ first_fault text) → are_in_order version sections ≡ true → text ≡ spelling version sections
     → error ≡ fault.Memory the_refusal
 refused_for_memory error text version sections told right text_is =
     only_memory error (λ other. told other ∙ ap first_fault text_is ∙ spelling_faultless version sections right)
 
 -- sections that are read from the spelling of others are these
-pub read_only : (text : List ℕ) (first : Line) (below : List Line) (said : List Content) (sections others : List Section) (version : Version)
-    → lines text ≡ first ∷ below → list_all is_content said ≡ true → below ≡ map said_line said → sections ≡ built [] said
-    → are_in_order others ≡ true → text ≡ spelling version others → sections ≡ others
-read_only text first below said sections others version text_is fits below_is built_is right spelled =
-    let told = spelling_lines version others right in
-    let all : first ∷ below ≡ heading_line ∷ map said_line (lines_of others) = sym text_is ∙ ap lines spelled ∙ told.1 in
+pub read_only : (text : List ℕ) (first : Line) (below : List Line) (said : List Content) (sections others : List Section) (named version : Version)
+    → lines text ≡ first ∷ below → version_of first ≡ Ok named → list_all (is_content named) said ≡ true → below ≡ map said_line said
+    → sections ≡ built [] said → are_in_order version others ≡ true → text ≡ spelling version others → sections ≡ others
+read_only text first below said sections others One One text_is named fits below_is built_is right spelled =
+    let told = spelling_lines One others right in
+    let all : first ∷ below ≡ heading_line One ∷ map said_line (lines_of others) = sym text_is ∙ ap lines spelled ∙ told.1 in
     let rest : below ≡ map said_line (lines_of others) = cc in
-    let same = same_lines said (lines_of others) fits (orderly-fits nothing (lines_of others) told.0) (sym below_is ∙ rest) in
+    let same = same_lines One said (lines_of others) fits (orderly-fits One nothing (lines_of others) told.0) (sym below_is ∙ rest) in
     built_is ∙ ap (built []) same ∙ built_again others
 
--- a fault below a faultless heading is the text's first
-pub fault_below : (text : List ℕ) (first : Line) (below : List Line) (error : ReadFault) → lines text ≡ first ∷ below
-    → heading_fault first ≡ None → fault_from 2 nothing below ≡ Some error → Some error ≡ first_fault text
-fault_below text first below error text_is none is =
-    sym (ap fault_of_lines text_is ∙ ap (λ one. or_else one (fault_from 2 nothing below)) none ∙ is)
+-- a fault below a heading is the text's first, and so is one of a heading
+pub fault_below : (text : List ℕ) (first : Line) (below : List Line) (version : Version) (error : ReadFault) → lines text ≡ first ∷ below
+    → version_of first ≡ Ok version → fault_from version 2 nothing below ≡ Some error → Some error ≡ first_fault text
+fault_below text first below version error text_is named is =
+    sym (ap fault_of_lines text_is ∙ ap (λ one. fault_behind one below) named ∙ is)
+
+pub fault_of_heading : (text : List ℕ) (first : Line) (below : List Line) (error : ReadFault) → lines text ≡ first ∷ below
+    → version_of first ≡ Err error → Some error ≡ first_fault text
+fault_of_heading text first below error text_is unnamed =
+    sym (ap fault_of_lines text_is ∙ ap (λ one. fault_behind one below) unnamed)
 
 pub error_only : (sections : List Section) (answer : Result Certificate ReadFault) (error : ReadFault) → IsErrAnd answer (λ given. given ≡ error)
     → error ≡ fault.Memory the_refusal → IsReadAs sections answer

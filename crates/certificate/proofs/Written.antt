@@ -2,8 +2,7 @@
 use Rattle.std.proofs.Common.{◌≡◌, ℕ, List, [], ◌∷◌, ◌++◌, ◌∙◌, refl, sym, ap, map, codes}
 use Rattle.std.specs.List.{flat_map}
 use Rattle.std.proofs.lemmas.Grind.{flat_map-append}
-use Rattle.certificate.specs.declared.Version.{Version}
-use Rattle.certificate.specs.declared.Version.TheVariants.{One}
+use Rattle.domain.specs.declared.versions.Version.{Version}
 use Rattle.certificate.specs.Lines.{Claim, Alias, Change, Entry, Exit, Fact, Content, Block, Loop, Claimed, claim_words, line_of}
 use Rattle.certificate.specs.Contents.{LoopClaims, Section, claims_of_block, claims_of_loop, ended, heading, lines_of, lines_of_loop}
 use Rattle.certificate.specs.Contents.{lines_of_section, spelling}
@@ -75,13 +74,10 @@ section_spelled section =
 sections_spelled : (sections : List Section) → flat_map section_text sections ≡ text_of (lines_of sections)
 sections_spelled sections = flat_map-flat_map (λ content. ended (line_of content)) lines_of_section section_text section_spelled sections
 
-heading_is : (version : Version) → ended (codes "pcert 1") ≡ ended (heading version)
-heading_is One = refl
-
 -- a heading and the lines of sections
-pub written : (version : Version) (sections : List Section) (front text : List ℕ) → front ≡ ended (codes "pcert 1")
+pub written : (version : Version) (sections : List Section) (front text : List ℕ) → front ≡ ended (heading version)
     → text ≡ front ++ flat_map section_text sections → text ≡ spelling version sections
 written version sections front text front_is text_is =
     text_is
-    ∙ ap (λ start. start ++ flat_map section_text sections) (front_is ∙ heading_is version)
+    ∙ ap (λ start. start ++ flat_map section_text sections) front_is
     ∙ ap (λ rest. ended (heading version) ++ rest) (sections_spelled sections)

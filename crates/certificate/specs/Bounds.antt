@@ -1,16 +1,18 @@
--- Bounds in a certificate's lines: how a bound is spelled, and what is read of a word. ISO 7185:1990 knows no bounds.
--- It does not say what number a bound is.
-use Rattle.std.specs.Prelude.{ℕ, ℤ, pos, int_lt, Bool, ◌||◌, ◌==◌, if◌then◌else◌, List, ◌++◌, take, drop, Result, Ok}
-use Rattle.std.specs.Prelude.{Err, codes}
+-- Bounds and spans in a certificate's lines: how they are spelled, and what is read of words. ISO 7185:1990 knows no
+-- bounds. It does not say what number a bound is.
+use Rattle.std.specs.Prelude.{ℕ, ℤ, pos, int_lt, Bool, ◌||◌, ◌==◌, if◌then◌else◌, List, [], ◌∷◌, ◌++◌, take, drop}
+use Rattle.std.specs.Prelude.{Result, Ok, Err, codes}
 use Rattle.std.specs.Fmt.{signed_decimal}
 use Rattle.std.specs.List.{position_or_len}
-use Rattle.domain.specs.Facts.{Bound, Number, Plus}
+use Rattle.domain.specs.Facts.{Bound, Number, Plus, Span}
+use Rattle.domain.specs.declared.versions.Version.{Version}
+use Rattle.domain.specs.declared.versions.Version.TheVariants.{One}
 use Rattle.certificate.specs.declared.words.LineFault.{LineFault}
 use Rattle.certificate.specs.declared.words.LineFault.TheVariants.{NotInGrammar}
-use Rattle.certificate.specs.Words.{◌>>=◌, behind, both, constant_of, lowered_of, positive_of, variable}
+use Rattle.certificate.specs.Words.{◌>>=◌, behind, both, constant_of, lowered_of, parted, positive_of, variable}
 use Rattle.certificate.specs.Words.{variable_of, when}
 
--- ---- how a bound is spelled
+-- ---- how bounds are spelled
 
 -- a number behind its sign, which is a plus at 0
 abbrev pub offset : ℤ → List ℕ
@@ -21,7 +23,11 @@ abbrev pub bound_words : Bound → List ℕ
 bound_words (Number number) = signed_decimal number
 bound_words (Plus root number) = variable root ++ offset number
 
--- ---- what a word says
+-- two bounds, with a blank before each
+abbrev pub span_words : Span → List ℕ
+span_words span = 32 ∷ (bound_words span.first ++ 32 ∷ bound_words span.last)
+
+-- ---- what words say
 
 -- a number behind its sign
 abbrev pub offset_of : List ℕ → Result ℤ LineFault
@@ -42,3 +48,14 @@ abbrev pub bound_of : List ℕ → Result Bound LineFault
 bound_of word =
     when (behind (codes "v") word) (λ _. plus_at word (position_or_len is_sign word))
     (constant_of word >>= λ number. Ok (Number number))
+
+-- two bounds
+abbrev pub span_of : List ℕ → Result Span LineFault
+span_of words = do
+  ends ← parted words
+  bounds ← both (bound_of ends.0) (bound_of ends.1)
+  Ok (record { first = bounds.0; last = bounds.1 })
+
+-- the spans that words say: in version 1 one
+abbrev pub spans_of : Version → List ℕ → Result (List Span) LineFault
+spans_of One words = span_of words >>= λ span. Ok (span ∷ [])

@@ -6,8 +6,9 @@ use Rattle.std.specs.Global.{Vec}
 use Rattle.std.specs.List.{list_all}
 use Rattle.memory.specs.Refused.{the_refusal}
 use Rattle.domain.specs.Interval.{between}
-use Rattle.domain.specs.Facts.{Step, Path, Range, Defined, Stretch, Order, said_bound}
+use Rattle.domain.specs.Facts.{Step, Path, Range, Defined, Order, said_spans}
 use Rattle.domain.specs.Facts.{Fact as VariableFact}
+use Rattle.domain.specs.declared.versions.Version.{Version}
 use Rattle.certificate.specs.declared.Section.{Section as KeptSection}
 use Rattle.certificate.specs.declared.paths.PathWord.{PathWord}
 use Rattle.certificate.specs.declared.fact_words.FactWords.{FactWords}
@@ -41,8 +42,7 @@ word_path path = record { root = path.root; steps = steps_in path.steps.now }
 
 abbrev pub word_fact : FactWords → VariableFact
 word_fact (word.Range path first last) = Range (word_path path) (between first last)
-word_fact (word.Defined path) = Defined (word_path path)
-word_fact (word.Stretch path first last) = Stretch (word_path path) (said_bound first) (said_bound last)
+word_fact (word.Defined path spans) = Defined (word_path path) (said_spans spans)
 word_fact (word.Order root other number) = Order root other number
 
 abbrev pub word_claim : KeptClaim → Claim
@@ -119,21 +119,22 @@ abbrev pub said_line : Content → Line
 said_line content = record { bytes = line_of content; ended = true }
 
 -- a line's paths are right, and its numbers are in range
-abbrev pub is_content : Content → Bool
-is_content (Block number) = is_small number
-is_content (Loop number) = is_small number
-is_content (Claimed claim) = is_claim claim
+abbrev pub is_content : Version → Content → Bool
+is_content version (Block number) = is_small number
+is_content version (Loop number) = is_small number
+is_content version (Claimed claim) = is_claim version claim
 
 -- what a line says, if it has no fault, or its fault
-abbrev pub IsContentAt : Result KeptContent ReadFault → ℕ → Above → Line → List Line → Type 0
-IsContentAt (Ok content) number above line more =
-    (line_fault number above line more ≡ None) × (reading line.bytes ≡ Ok (said_content content)) × (line.ended ≡ true)
-IsContentAt (Err fault) number above line more = line_fault number above line more ≡ Some fault
+abbrev pub IsContentAt : Version → Result KeptContent ReadFault → ℕ → Above → Line → List Line → Type 0
+IsContentAt version (Ok content) number above line more =
+    (line_fault version number above line more ≡ None) × (reading version line.bytes ≡ Ok (said_content content))
+    × (line.ended ≡ true)
+IsContentAt version (Err fault) number above line more = line_fault version number above line more ≡ Some fault
 
 -- the sections that lines below the heading say, if none has a fault, or the first fault, or want of memory
-abbrev pub AreRead : Result (Vec KeptSection) ReadFault → List Line → Type 0
-AreRead (Ok sections) below =
-    (fault_from 2 nothing below ≡ None)
-    × (said : List Content) × (list_all is_content said ≡ true) × (below ≡ map said_line said)
+abbrev pub AreRead : Version → Result (Vec KeptSection) ReadFault → List Line → Type 0
+AreRead version (Ok sections) below =
+    (fault_from version 2 nothing below ≡ None)
+    × (said : List Content) × (list_all (is_content version) said ≡ true) × (below ≡ map said_line said)
     × (map section_of sections.items ≡ built [] said)
-AreRead (Err fault) below = fault ≢ Memory the_refusal → fault_from 2 nothing below ≡ Some fault
+AreRead version (Err fault) below = fault ≢ Memory the_refusal → fault_from version 2 nothing below ≡ Some fault

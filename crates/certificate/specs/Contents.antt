@@ -1,24 +1,25 @@
 -- What a certificate says of each block and its loops, in which order it says it, and how it is spelled. ISO 7185:1990
 -- knows no certificates. It does not say what its claims mean for a program.
 use Rattle.std.specs.Prelude.{◌≡◌, ℕ, ℤ, pos, neg_ℤ, Bool, true, false, not, ◌&&◌, ◌||◌, nat_le, int_le, List, [], ◌∷◌}
-use Rattle.std.specs.Prelude.{nat_lt}
+use Rattle.std.specs.Prelude.{length, nat_lt}
 use Rattle.std.specs.Prelude.{◌++◌, map, Option, Some, None, Result, Ok, Err, codes}
 use Rattle.std.specs.List.{flat_map, list_all}
 use Rattle.std.specs.declared.cmp.Ordering.{Ordering}
 use Rattle.std.specs.Ordering.{is_lt, int_eq, nat_cmp, ordering_then}
 use Rattle.std.specs.declared.cmp.Ordering.TheVariants.{Equal}
 use Rattle.memory.specs.Refused.{the_refusal}
-use Rattle.domain.specs.Facts.{Step, Path, Bound, Elements, Field, Number, Plus, Range, Defined, Stretch, Order}
-use Rattle.domain.specs.Facts.{Fact as VariableFact, said_bound, said_path, subject_order}
+use Rattle.domain.specs.Facts.{Step, Path, Bound, Span, Elements, Field, Number, Plus, Range, Defined, Order}
+use Rattle.domain.specs.Facts.{Fact as VariableFact, said_path, said_spans, subject_order}
 use Rattle.domain.specs.Interval.{Interval}
+use Rattle.domain.specs.Versions.{most_spans}
+use Rattle.domain.specs.declared.versions.Version.{Version}
+use Rattle.domain.specs.declared.versions.Version.TheVariants.{One}
 use Rattle.certificate.specs.declared.AliasPair.{AliasPair}
 use Rattle.certificate.specs.declared.Certificate.{Certificate}
 use Rattle.certificate.specs.declared.Section.{Section as KeptSection}
 use Rattle.certificate.specs.declared.LoopClaims.{LoopClaims as KeptLoop}
 use Rattle.certificate.specs.declared.facts.Fact.{Fact as KeptFact}
 use Rattle.certificate.specs.declared.facts.Fact.TheVariants as kept
-use Rattle.certificate.specs.declared.Version.{Version}
-use Rattle.certificate.specs.declared.Version.TheVariants.{One}
 use Rattle.certificate.specs.declared.fault.ReadFault.{ReadFault}
 use Rattle.certificate.specs.declared.fault.ReadFault.TheVariants.{Memory}
 use Rattle.certificate.specs.Words.{most, maxint}
@@ -44,8 +45,7 @@ pub record Section : Type 0 where
 -- what a certificate says, wherever it lies in memory
 abbrev pub said_fact : KeptFact → VariableFact
 said_fact (kept.Range path range) = Range (said_path path) range
-said_fact (kept.Defined path) = Defined (said_path path)
-said_fact (kept.Stretch path first last) = Stretch (said_path path) (said_bound first) (said_bound last)
+said_fact (kept.Defined path spans) = Defined (said_path path) (said_spans spans)
 said_fact (kept.Order root other number) = Order root other number
 
 abbrev pub loop_of : KeptLoop → LoopClaims
@@ -65,7 +65,7 @@ section_of section = record {
 abbrev pub contents : Certificate → List Section
 contents certificate = map section_of certificate.sections.items
 
--- ---- what may be said
+-- ---- what may be said in a certificate of a version
 
 -- the number of a block, a loop or a variable
 abbrev pub is_small : ℕ → Bool
@@ -91,21 +91,27 @@ abbrev pub is_bound : Bound → Bool
 is_bound (Number number) = is_constant number
 is_bound (Plus root number) = is_small root && is_constant number
 
--- a fact has right paths, and its numbers are in range
-abbrev pub is_fact : VariableFact → Bool
-is_fact (Range path range) =
-    is_path true path && (is_constant range.first && (is_constant range.last && is_plain range))
-is_fact (Defined path) = is_path false path
-is_fact (Stretch path first last) = is_path false path && (is_bound first && is_bound last)
-is_fact (Order root other number) = is_small root && (is_small other && is_constant number)
+abbrev pub is_span : Span → Bool
+is_span span = is_bound span.first && is_bound span.last
 
--- a claim's numbers are in range, and its paths right
-abbrev pub is_claim : Claim → Bool
-is_claim (Alias pair) = is_small pair.first && is_small pair.second
-is_claim (Change root) = is_small root
-is_claim (Entry fact) = is_fact fact
-is_claim (Exit fact) = is_fact fact
-is_claim (Fact fact) = is_fact fact
+-- spans are no more than a fact has at most
+abbrev pub are_spans : Version → List Span → Bool
+are_spans version spans = nat_le (length spans) (most_spans version) && list_all is_span spans
+
+-- a fact has right paths and spans, and its numbers are in range
+abbrev pub is_fact : Version → VariableFact → Bool
+is_fact version (Range path range) =
+    is_path true path && (is_constant range.first && (is_constant range.last && is_plain range))
+is_fact version (Defined path spans) = is_path false path && are_spans version spans
+is_fact version (Order root other number) = is_small root && (is_small other && is_constant number)
+
+-- a claim's numbers are in range, and its facts right
+abbrev pub is_claim : Version → Claim → Bool
+is_claim version (Alias pair) = is_small pair.first && is_small pair.second
+is_claim version (Change root) = is_small root
+is_claim version (Entry fact) = is_fact version fact
+is_claim version (Exit fact) = is_fact version fact
+is_claim version (Fact fact) = is_fact version fact
 
 -- a claim is one of a loop, or of a block itself, with the smaller variable of a pair first
 abbrev pub may_stand : (in_loop : Bool) → Claim → Bool
@@ -115,8 +121,8 @@ may_stand in_loop (Entry fact) = not in_loop
 may_stand in_loop (Exit fact) = not in_loop
 may_stand in_loop (Fact fact) = in_loop
 
-abbrev pub is_right : (in_loop : Bool) → Claim → Bool
-is_right in_loop claim = is_claim claim && may_stand in_loop claim
+abbrev pub is_right : Version → (in_loop : Bool) → Claim → Bool
+is_right version in_loop claim = is_claim version claim && may_stand in_loop claim
 
 -- ---- the order
 
@@ -170,25 +176,26 @@ claims_of_block section =
     ++ (map Change section.changes ++ (map Entry section.entry ++ map Exit section.exit))
 
 -- claims of a loop, or of a block itself, are in order
-abbrev pub are_claims : (in_loop : Bool) → List Claim → Bool
-are_claims in_loop claims = are_listed claim_order (λ claim. claim) (is_right in_loop) None claims
+abbrev pub are_claims : Version → (in_loop : Bool) → List Claim → Bool
+are_claims version in_loop claims = are_listed claim_order (λ claim. claim) (is_right version in_loop) None claims
 
 -- something is claimed of a loop, in order
-abbrev pub is_loop : LoopClaims → Bool
-is_loop claims =
-    is_small claims.number && (not (is_empty (claims_of_loop claims)) && are_claims true (claims_of_loop claims))
+abbrev pub is_loop : Version → LoopClaims → Bool
+is_loop version claims =
+    is_small claims.number
+    && (not (is_empty (claims_of_loop claims)) && are_claims version true (claims_of_loop claims))
 
 -- something is claimed of a block itself or of loops of it, in order, the loops by their numbers
-abbrev pub is_section : Section → Bool
-is_section section =
+abbrev pub is_section : Version → Section → Bool
+is_section version section =
     is_small section.block
     && (not (is_empty (claims_of_block section) && is_empty section.loops)
-    && (are_claims false (claims_of_block section)
-    && are_listed nat_cmp (λ claims. claims.number) is_loop None section.loops))
+    && (are_claims version false (claims_of_block section)
+    && are_listed nat_cmp (λ claims. claims.number) (is_loop version) None section.loops))
 
 -- sections are in order, and so is what each says
-abbrev pub are_in_order : List Section → Bool
-are_in_order sections = are_listed nat_cmp (λ section. section.block) is_section None sections
+abbrev pub are_in_order : Version → List Section → Bool
+are_in_order version sections = are_listed nat_cmp (λ section. section.block) (is_section version) None sections
 
 -- ---- the spelling
 
@@ -217,7 +224,7 @@ spelling version sections = ended (heading version) ++ flat_map (λ content. end
 
 -- a certificate is in order, and a text is its spelling
 pub record Spells (text : List ℕ) (certificate : Certificate) : Type 0 where
-  pub in_order : are_in_order (contents certificate) ≡ true
+  pub in_order : are_in_order certificate.version (contents certificate) ≡ true
   pub text_is : text ≡ spelling certificate.version (contents certificate)
 
 -- sections are answered, or memory ran out

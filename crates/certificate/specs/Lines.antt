@@ -1,18 +1,20 @@
 -- The lines of a certificate below its heading: how a line spells what it says, and what a line says, if it is in the
 -- grammar and its numbers are in range. ISO 7185:1990 knows no certificates. It does not say where a line may stand.
-use Rattle.std.specs.Prelude.{ℕ, suc, ℤ, pos, true, false, not, ◌&&◌, ◌==◌, int_lt, if◌then◌else◌, List, ◌∷◌, ◌++◌}
-use Rattle.std.specs.Prelude.{take, drop, position, Option, Some, None, Result, Ok, Err, codes, decimal}
+use Rattle.std.specs.Prelude.{ℕ, suc, ℤ, pos, true, false, not, ◌&&◌, ◌==◌, int_lt, if◌then◌else◌, List, [], ◌∷◌}
+use Rattle.std.specs.Prelude.{◌++◌, take, drop, position, Option, Some, None, Result, Ok, Err, codes, decimal}
+use Rattle.std.specs.List.{flat_map}
 use Rattle.std.specs.Ordering.{int_eq}
 use Rattle.std.specs.Fmt.{signed_decimal}
 use Rattle.domain.specs.Interval.{between}
-use Rattle.domain.specs.Facts.{Path, Range, Defined, Stretch, Order}
+use Rattle.domain.specs.Facts.{Path, Range, Defined, Order}
 use Rattle.domain.specs.Facts.{Fact as VariableFact}
+use Rattle.domain.specs.declared.versions.Version.{Version}
 use Rattle.certificate.specs.declared.AliasPair.{AliasPair}
 use Rattle.certificate.specs.declared.words.LineFault.{LineFault}
 use Rattle.certificate.specs.declared.words.LineFault.TheVariants.{NotInGrammar, OutOfRange}
 use Rattle.certificate.specs.Words.{◌>>=◌, behind, both, constant_of, number_of, parted, variable, variable_of, when}
 use Rattle.certificate.specs.Paths.{path_of, path_words}
-use Rattle.certificate.specs.Bounds.{bound_of, bound_words}
+use Rattle.certificate.specs.Bounds.{span_words, spans_of}
 
 -- what is claimed of a block: two variables may share a place in it; it changes a variable; a fact holds where it
 -- begins, or where it ends; or of a loop: it changes a variable; a fact holds whenever a turn of it begins
@@ -35,9 +37,7 @@ pub data Content : Type 0 where
 abbrev pub fact_words : VariableFact → List ℕ
 fact_words (Range path range) =
     codes "range " ++ path_words path ++ 32 ∷ (signed_decimal range.first ++ 32 ∷ signed_decimal range.last)
-fact_words (Defined path) = codes "defined " ++ path_words path
-fact_words (Stretch path first last) =
-    codes "defined " ++ path_words path ++ 32 ∷ (bound_words first ++ 32 ∷ bound_words last)
+fact_words (Defined path spans) = codes "defined " ++ path_words path ++ flat_map span_words spans
 fact_words (Order root other number) =
     codes "order " ++ variable root ++ 32 ∷ (variable other ++ 32 ∷ signed_decimal number)
 
@@ -55,7 +55,7 @@ line_of (Block number) = codes "proc " ++ decimal number
 line_of (Loop number) = codes "loop " ++ decimal number
 line_of (Claimed claim) = claim_words claim
 
--- ---- what a line says
+-- ---- what a line of a version says
 
 -- a range fact: a range without a number is written 1 0
 abbrev pub range_of : Path × (ℤ × ℤ) → Result VariableFact LineFault
@@ -71,20 +71,19 @@ range_fact words = do
   parts ← both (path_of true first.0) (both (constant_of second.0) (constant_of second.1))
   range_of parts
 
--- a path without elements, and two bounds
-abbrev pub stretch_fact : (path bounds : List ℕ) → Result VariableFact LineFault
-stretch_fact path bounds = do
-  ends ← parted bounds
-  parts ← both (path_of false path) (both (bound_of ends.0) (bound_of ends.1))
-  Ok (Stretch parts.0 parts.1.0 parts.1.1)
+-- a path without elements, and spans
+abbrev pub spanned_fact : Version → (path spans : List ℕ) → Result VariableFact LineFault
+spanned_fact version path spans = do
+  parts ← both (path_of false path) (spans_of version spans)
+  Ok (Defined parts.0 parts.1)
 
--- a path without elements, and behind a blank two bounds
-abbrev pub defined_at : List ℕ → Option ℕ → Result VariableFact LineFault
-defined_at words None = path_of false words >>= λ path. Ok (Defined path)
-defined_at words (Some end) = stretch_fact (take end words) (drop (suc end) words)
+-- a path without elements, and perhaps spans behind a blank
+abbrev pub defined_at : Version → List ℕ → Option ℕ → Result VariableFact LineFault
+defined_at version words None = path_of false words >>= λ path. Ok (Defined path [])
+defined_at version words (Some end) = spanned_fact version (take end words) (drop (suc end) words)
 
-abbrev pub defined_fact : List ℕ → Result VariableFact LineFault
-defined_fact words = defined_at words (position (λ byte. byte == 32) words)
+abbrev pub defined_fact : Version → List ℕ → Result VariableFact LineFault
+defined_fact version words = defined_at version words (position (λ byte. byte == 32) words)
 
 -- two variables and a number
 abbrev pub order_fact : List ℕ → Result VariableFact LineFault
@@ -95,9 +94,9 @@ order_fact words = do
   Ok (Order parts.0 parts.1.0 parts.1.1)
 
 -- the words of a fact
-abbrev pub fact_of : List ℕ → Result VariableFact LineFault
-fact_of words =
-    when (behind (codes "defined ") words) defined_fact
+abbrev pub fact_of : Version → List ℕ → Result VariableFact LineFault
+fact_of version words =
+    when (behind (codes "defined ") words) (defined_fact version)
     (when (behind (codes "range ") words) range_fact
     (when (behind (codes "order ") words) order_fact (Err NotInGrammar)))
 
@@ -109,17 +108,18 @@ pair_of words = do
   Ok (record { first = roots.0; second = roots.1 })
 
 -- a claim, by the word that the line begins with
-abbrev pub claim_of : List ℕ → Result Claim LineFault
-claim_of line =
+abbrev pub claim_of : Version → List ℕ → Result Claim LineFault
+claim_of version line =
     when (behind (codes "alias ") line) (λ words. pair_of words >>= λ pair. Ok (Alias pair))
     (when (behind (codes "change ") line) (λ word. variable_of word >>= λ root. Ok (Change root))
-    (when (behind (codes "entry ") line) (λ words. fact_of words >>= λ fact. Ok (Entry fact))
-    (when (behind (codes "exit ") line) (λ words. fact_of words >>= λ fact. Ok (Exit fact))
-    (when (behind (codes "fact ") line) (λ words. fact_of words >>= λ fact. Ok (Fact fact)) (Err NotInGrammar)))))
+    (when (behind (codes "entry ") line) (λ words. fact_of version words >>= λ fact. Ok (Entry fact))
+    (when (behind (codes "exit ") line) (λ words. fact_of version words >>= λ fact. Ok (Exit fact))
+    (when (behind (codes "fact ") line) (λ words. fact_of version words >>= λ fact. Ok (Fact fact))
+    (Err NotInGrammar)))))
 
 -- what a line says
-abbrev pub reading : List ℕ → Result Content LineFault
-reading line =
+abbrev pub reading : Version → List ℕ → Result Content LineFault
+reading version line =
     when (behind (codes "proc ") line) (λ word. number_of word >>= λ number. Ok (Block number))
     (when (behind (codes "loop ") line) (λ word. number_of word >>= λ number. Ok (Loop number))
-    (claim_of line >>= λ claim. Ok (Claimed claim)))
+    (claim_of version line >>= λ claim. Ok (Claimed claim)))

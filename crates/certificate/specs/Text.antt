@@ -5,7 +5,8 @@ use Rattle.std.specs.Prelude.{None, Result, Ok, Err, codes}
 use Rattle.std.specs.Str.{bytes_eq}
 use Rattle.std.specs.Option.{is_some}
 use Rattle.std.specs.Ordering.{nat_cmp}
-use Rattle.certificate.specs.declared.Version.TheVariants.{One}
+use Rattle.domain.specs.declared.versions.Version.{Version}
+use Rattle.domain.specs.declared.versions.Version.TheVariants.{One}
 use Rattle.certificate.specs.declared.words.LineFault.{LineFault}
 use Rattle.certificate.specs.declared.words.LineFault.TheVariants as line
 use Rattle.certificate.specs.declared.fault.ReadFault.{ReadFault}
@@ -83,14 +84,15 @@ content_fault number above (Ok content) more =
     if admits above content && has_below content more then None else Some (OutOfOrder number)
 
 -- the fault of a line below the heading that has its end: it may be no heading of a text once more
-abbrev pub ended_fault : ℕ → Above → List ℕ → List Line → Option ReadFault
-ended_fault number above bytes more =
-    if bytes_eq bytes (heading One) then Some (OutOfOrder number) else content_fault number above (reading bytes) more
+abbrev pub ended_fault : Version → ℕ → Above → List ℕ → List Line → Option ReadFault
+ended_fault version number above bytes more =
+    if bytes_eq bytes (heading version) then Some (OutOfOrder number)
+    else content_fault number above (reading version bytes) more
 
 -- the fault of a line below the heading: first that it has no end
-abbrev pub line_fault : ℕ → Above → Line → List Line → Option ReadFault
-line_fault number above line more =
-    if line.ended then ended_fault number above line.bytes more else Some (Unended number)
+abbrev pub line_fault : Version → ℕ → Above → Line → List Line → Option ReadFault
+line_fault version number above line more =
+    if line.ended then ended_fault version number above line.bytes more else Some (Unended number)
 
 -- one fault, or else another
 abbrev pub or_else : Option ReadFault → Option ReadFault → Option ReadFault
@@ -103,21 +105,26 @@ below_line above (Ok content) = below above content
 below_line above (Err fault) = above
 
 -- the fault of the first faulty line below the heading, the lines numbered from the number on
-abbrev pub fault_from : ℕ → Above → List Line → Option ReadFault
-fault_from number above [] = None
-fault_from number above (line ∷ more) =
-    or_else (line_fault number above line more)
-    (fault_from (suc number) (below_line above (reading line.bytes)) more)
+abbrev pub fault_from : Version → ℕ → Above → List Line → Option ReadFault
+fault_from version number above [] = None
+fault_from version number above (line ∷ more) =
+    or_else (line_fault version number above line more)
+    (fault_from version (suc number) (below_line above (reading version line.bytes)) more)
 
--- the fault of a first line: first that it has no end
-abbrev pub heading_fault : Line → Option ReadFault
-heading_fault line =
-    if line.ended then (if bytes_eq line.bytes (heading One) then None else Some (FirstLine 1)) else Some (Unended 1)
+-- the version that a first line names, or its fault: first that it has no end
+abbrev pub version_of : Line → Result Version ReadFault
+version_of line =
+    if line.ended then (if bytes_eq line.bytes (heading One) then Ok One else Err (FirstLine 1)) else Err (Unended 1)
+
+-- the fault of a first line, or else of the first faulty line below it
+abbrev pub fault_behind : Result Version ReadFault → List Line → Option ReadFault
+fault_behind (Err fault) more = Some fault
+fault_behind (Ok version) more = fault_from version 2 nothing more
 
 -- the fault of the first faulty line of a text; a text without lines lacks its first
 abbrev pub fault_of_lines : List Line → Option ReadFault
 fault_of_lines [] = Some (FirstLine 1)
-fault_of_lines (line ∷ more) = or_else (heading_fault line) (fault_from 2 nothing more)
+fault_of_lines (line ∷ more) = fault_behind (version_of line) more
 
 abbrev pub first_fault : List ℕ → Option ReadFault
 first_fault text = fault_of_lines (lines text)

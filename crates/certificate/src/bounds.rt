@@ -1,15 +1,37 @@
 ghost use Rattle.std.specs.Prelude.{◌≡◌, ◌≤◌, length, position};
 ghost use Rattle.std.specs.List.{position_or_len};
 ghost use Rattle.std.specs.Result.{result_map_both};
-ghost use Rattle.domain.specs.Facts.{said_bound};
+ghost use Rattle.domain.specs.Facts.{said_bound, said_span, said_spans};
 ghost use Rattle.certificate.specs.Bounds as spec;
 ghost use Rattle.certificate.specs.Bounds.{is_sign};
 
-use crate::words::{LineFault, both, constant_of, lowered_of, positive_of, variable_of};
-use domain::facts::Bound;
+use crate::words::{LineFault, both, constant_of, lowered_of, parted, positive_of, variable_of};
+use domain::facts::{Bound, Span, Spans};
+use domain::versions::Version;
+
+/// The spans that words tell in a certificate of a version: in version 1 one.
+pub(crate) fn spans_of(version: Version, words: &[u8]) -> Result<Spans, LineFault>
+    ensures { result_map_both said_spans (λ fault. fault) result ≡ spec.spans_of version words.now }
+{
+    match version {
+        Version::One => {
+            let span = span_of(words)?;
+            Ok(Spans::One(span))
+        }
+    }
+}
+
+/// The span that two bounds tell.
+fn span_of(words: &[u8]) -> Result<Span, LineFault>
+    ensures { result_map_both said_span (λ fault. fault) result ≡ spec.span_of words.now }
+{
+    let (first, last) = parted(words)?;
+    let (first, last) = both(bound_of(first), bound_of(last))?;
+    Ok(Span { first, last })
+}
 
 /// The bound that a word tells: a number, or a variable and a number with its sign.
-pub(crate) fn bound_of(word: &[u8]) -> Result<Bound, LineFault>
+fn bound_of(word: &[u8]) -> Result<Bound, LineFault>
     ensures { result_map_both said_bound (λ fault. fault) result ≡ spec.bound_of word.now }
 {
     match word.strip_prefix(b"v") {

@@ -7,6 +7,7 @@ ghost use Rattle.certificate.specs.Lines as spec;
 use crate::AliasPair;
 use crate::fact_words::{FactWords, fact_of};
 use crate::words::{LineFault, both, number_of, parted, variable_of};
+use domain::versions::Version;
 use std::cmp::Ordering;
 
 /// What is claimed of a block itself, or of a loop.
@@ -88,9 +89,9 @@ impl<'a> Claim<'a> {
     }
 }
 
-/// What a line below the heading says.
-pub(crate) fn reading(line: &[u8]) -> Result<Content<'_>, LineFault>
-    ensures { result_map_both said_content (λ fault. fault) result ≡ spec.reading line.now }
+/// What a line below the heading of a version says.
+pub(crate) fn reading(version: Version, line: &[u8]) -> Result<Content<'_>, LineFault>
+    ensures { result_map_both said_content (λ fault. fault) result ≡ spec.reading version line.now }
 {
     if let Some(number) = line.strip_prefix(b"proc ") {
         return Ok(Content::Block(number_of(number)?));
@@ -98,13 +99,13 @@ pub(crate) fn reading(line: &[u8]) -> Result<Content<'_>, LineFault>
     if let Some(number) = line.strip_prefix(b"loop ") {
         return Ok(Content::Loop(number_of(number)?));
     }
-    let claim = claim_of(line)?;
+    let claim = claim_of(version, line)?;
     Ok(Content::Claimed(claim))
 }
 
 /// What a line claims, by the word that it begins with.
-fn claim_of(line: &[u8]) -> Result<Claim<'_>, LineFault>
-    ensures { result_map_both word_claim (λ fault. fault) result ≡ spec.claim_of line.now }
+fn claim_of(version: Version, line: &[u8]) -> Result<Claim<'_>, LineFault>
+    ensures { result_map_both word_claim (λ fault. fault) result ≡ spec.claim_of version line.now }
 {
     if let Some(pair) = line.strip_prefix(b"alias ") {
         return Ok(Claim::Alias(pair_of(pair)?));
@@ -113,15 +114,15 @@ fn claim_of(line: &[u8]) -> Result<Claim<'_>, LineFault>
         return Ok(Claim::Change(variable_of(root)?));
     }
     if let Some(words) = line.strip_prefix(b"entry ") {
-        let fact = fact_of(words)?;
+        let fact = fact_of(version, words)?;
         return Ok(Claim::Entry(fact));
     }
     if let Some(words) = line.strip_prefix(b"exit ") {
-        let fact = fact_of(words)?;
+        let fact = fact_of(version, words)?;
         return Ok(Claim::Exit(fact));
     }
     if let Some(words) = line.strip_prefix(b"fact ") {
-        let fact = fact_of(words)?;
+        let fact = fact_of(version, words)?;
         return Ok(Claim::Fact(fact));
     }
     Err(LineFault::NotInGrammar)

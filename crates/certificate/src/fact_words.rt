@@ -1,16 +1,17 @@
 ghost use Rattle.std.specs.Prelude.{◌≡◌, IfOk};
 ghost use Rattle.std.specs.Result.{result_map_both};
-ghost use Rattle.domain.specs.Facts.{rank, subject_order};
+ghost use Rattle.domain.specs.Facts.{subject_order};
 ghost use Rattle.certificate.specs.Building.{word_fact, word_path};
 ghost use Rattle.certificate.specs.Contents.{said_fact};
 ghost use Rattle.certificate.specs.Lines as spec;
 
-use crate::bounds::bound_of;
+use crate::bounds::spans_of;
 use crate::facts::Fact;
 use crate::paths::{PathWord, path_of};
 use crate::words::{LineFault, blank, both, constant_of, parted, variable_of};
-use domain::facts::Bound;
+use domain::facts::Spans;
 use domain::interval::Interval;
+use domain::versions::Version;
 use std::alloc::{AllocError, Global};
 use std::cmp::Ordering;
 
@@ -23,15 +24,10 @@ pub(crate) enum FactWords<'a> {
         first: i32,
         last: i32,
     },
-    /// `defined P`.
+    /// `defined P`, or `defined P B B`.
     Defined {
         path: PathWord<'a>,
-    },
-    /// `defined P B B`.
-    Stretch {
-        path: PathWord<'a>,
-        first: Bound,
-        last: Bound,
+        spans: Spans,
     },
     /// `order V V C`.
     Order {
@@ -48,19 +44,8 @@ impl<'a> FactWords<'a> {
     {
         match (self, other) {
             (FactWords::Range { path: p, .. }, FactWords::Range { path: q, .. }) => p.compare(q),
-            (FactWords::Defined { path: p }, FactWords::Defined { path: q }) => p.compare(q),
-            (
-                FactWords::Stretch {
-                    path: p,
-                    first: a,
-                    last: b,
-                },
-                FactWords::Stretch {
-                    path: q,
-                    first: c,
-                    last: d,
-                },
-            ) => p.compare(q).then(a.compare(c).then(b.compare(d))),
+            (FactWords::Defined { path: p, spans: a }, FactWords::Defined { path: q, spans: b }) =>
+                { a.compare(*b, p.compare(q)) }
             (
                 FactWords::Order {
                     root: v,
@@ -73,19 +58,8 @@ impl<'a> FactWords<'a> {
                     ..
                 },
             ) => v.cmp(w).then(a.cmp(b)),
-            _ => self.rank().cmp(&other.rank()),
-        }
-    }
-
-    /// The place of the fact's form among the forms.
-    fn rank(&self) -> u8
-        ensures { result ≡ rank (word_fact self.now) }
-    {
-        match self {
-            FactWords::Range { .. } => 0,
-            FactWords::Defined { .. } => 1,
-            FactWords::Stretch { .. } => 2,
-            FactWords::Order { .. } => 3,
+            (FactWords::Range { .. }, _) | (_, FactWords::Order { .. }) => Ordering::Less,
+            (_, FactWords::Range { .. }) | (FactWords::Order { .. }, _) => Ordering::Greater,
         }
     }
 
@@ -99,16 +73,11 @@ impl<'a> FactWords<'a> {
                 let range = Interval::between(*first, *last);
                 Ok(Fact::Range { path, range })
             }
-            FactWords::Defined { path } => {
+            FactWords::Defined { path, spans } => {
                 let path = path.kept(alloc)?;
-                Ok(Fact::Defined { path })
-            }
-            FactWords::Stretch { path, first, last } => {
-                let path = path.kept(alloc)?;
-                Ok(Fact::Stretch {
+                Ok(Fact::Defined {
                     path,
-                    first: *first,
-                    last: *last,
+                    spans: *spans,
                 })
             }
             FactWords::Order {
@@ -124,12 +93,12 @@ impl<'a> FactWords<'a> {
     }
 }
 
-/// The fact that the words behind `fact` tell.
-pub(crate) fn fact_of(words: &[u8]) -> Result<FactWords<'_>, LineFault>
-    ensures { result_map_both word_fact (λ fault. fault) result ≡ spec.fact_of words.now }
+/// The fact that the words behind `fact` tell in a certificate of a version.
+pub(crate) fn fact_of(version: Version, words: &[u8]) -> Result<FactWords<'_>, LineFault>
+    ensures { result_map_both word_fact (λ fault. fault) result ≡ spec.fact_of version words.now }
 {
     if let Some(words) = words.strip_prefix(b"defined ") {
-        return defined_fact(words);
+        return defined_fact(version, words);
     }
     if let Some(words) = words.strip_prefix(b"range ") {
         return range_fact(words);
@@ -161,27 +130,30 @@ fn range_of(path: PathWord<'_>, first: i32, last: i32) -> Result<FactWords<'_>, 
     Ok(FactWords::Range { path, first, last })
 }
 
-/// The fact that a path tells, alone or with two bounds.
-fn defined_fact(words: &[u8]) -> Result<FactWords<'_>, LineFault>
-    ensures { result_map_both word_fact (λ fault. fault) result ≡ spec.defined_fact words.now }
+/// The fact that a path tells, alone or with spans.
+fn defined_fact(version: Version, words: &[u8]) -> Result<FactWords<'_>, LineFault>
+    ensures { result_map_both word_fact (λ fault. fault) result ≡ spec.defined_fact version words.now }
 {
     match blank(words) {
         None => {
             let path = path_of(false, words)?;
-            Ok(FactWords::Defined { path })
+            let spans = Spans::None;
+            Ok(FactWords::Defined { path, spans })
         }
-        Some(end) => stretch_fact(&words[..end], &words[end + 1..]),
+        Some(end) => spanned_fact(version, &words[..end], &words[end + 1..]),
     }
 }
 
-/// The fact that a path and two bounds tell.
-fn stretch_fact<'a>(path: &'a [u8], bounds: &'a [u8]) -> Result<FactWords<'a>, LineFault>
-    ensures { result_map_both word_fact (λ fault. fault) result ≡ spec.stretch_fact path.now bounds.now }
+/// The fact that a path and spans tell.
+fn spanned_fact<'a>(
+    version: Version,
+    path: &'a [u8],
+    spans: &[u8],
+) -> Result<FactWords<'a>, LineFault>
+    ensures { result_map_both word_fact (λ fault. fault) result ≡ spec.spanned_fact version path.now spans.now }
 {
-    let (first, last) = parted(bounds)?;
-    let bounds = both(bound_of(first), bound_of(last));
-    let (path, (first, last)) = both(path_of(false, path), bounds)?;
-    Ok(FactWords::Stretch { path, first, last })
+    let (path, spans) = both(path_of(false, path), spans_of(version, spans))?;
+    Ok(FactWords::Defined { path, spans })
 }
 
 /// The fact that two variables and a number tell.

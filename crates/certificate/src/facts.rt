@@ -1,8 +1,8 @@
 ghost use Rattle.std.specs.Prelude.{◌≡◌};
-ghost use Rattle.domain.specs.Facts.{rank, subject_order};
+ghost use Rattle.domain.specs.Facts.{subject_order};
 ghost use Rattle.certificate.specs.Contents.{said_fact};
 
-use domain::facts::{Bound, Path};
+use domain::facts::{Path, Spans};
 use domain::interval::Interval;
 use std::cmp::Ordering;
 
@@ -10,27 +10,12 @@ use std::cmp::Ordering;
 #[derive(Drop)]
 pub enum Fact {
     /// Each defined value at the path lies in the range.
-    Range {
-        path: Path,
-        range: Interval,
-    },
-    /// What lies at the path, which has no step to elements, is defined.
-    Defined {
-        path: Path,
-    },
-    /// Each element of the array at the path, which has no step to elements, is defined from the first index to the
-    /// last.
-    Stretch {
-        path: Path,
-        first: Bound,
-        last: Bound,
-    },
+    Range { path: Path, range: Interval },
+    /// What lies at the path, which has no step to elements, is defined, or each element of it whose indexes lie in
+    /// the spans.
+    Defined { path: Path, spans: Spans },
     /// Both variables are defined, and the value of the first is at most that of the other plus the number.
-    Order {
-        root: u32,
-        other: u32,
-        number: i32,
-    },
+    Order { root: u32, other: u32, number: i32 },
 }
 
 impl Fact {
@@ -40,19 +25,9 @@ impl Fact {
     {
         match (self, other) {
             (Fact::Range { path: p, .. }, Fact::Range { path: q, .. }) => p.compare(q),
-            (Fact::Defined { path: p }, Fact::Defined { path: q }) => p.compare(q),
-            (
-                Fact::Stretch {
-                    path: p,
-                    first: a,
-                    last: b,
-                },
-                Fact::Stretch {
-                    path: q,
-                    first: c,
-                    last: d,
-                },
-            ) => p.compare(q).then(a.compare(c).then(b.compare(d))),
+            (Fact::Defined { path: p, spans: a }, Fact::Defined { path: q, spans: b }) => {
+                a.compare(*b, p.compare(q))
+            }
             (
                 Fact::Order {
                     root: v,
@@ -65,19 +40,8 @@ impl Fact {
                     ..
                 },
             ) => v.cmp(w).then(a.cmp(b)),
-            _ => self.rank().cmp(&other.rank()),
-        }
-    }
-
-    /// The place of the fact's form among the forms.
-    fn rank(&self) -> u8
-        ensures { result ≡ rank (said_fact self.now) }
-    {
-        match self {
-            Fact::Range { .. } => 0,
-            Fact::Defined { .. } => 1,
-            Fact::Stretch { .. } => 2,
-            Fact::Order { .. } => 3,
+            (Fact::Range { .. }, _) | (_, Fact::Order { .. }) => Ordering::Less,
+            (_, Fact::Range { .. }) | (Fact::Order { .. }, _) => Ordering::Greater,
         }
     }
 }

@@ -13,16 +13,10 @@ pub mod reader;
 mod words;
 pub mod writer;
 
+use domain::versions::Version;
 pub use facts::Fact;
 pub use reader::read;
 pub use writer::write;
-
-/// The version that the first line of a certificate names.
-#[derive(Clone, Copy)]
-pub enum Version {
-    /// `pcert 1`.
-    One,
-}
 
 /// What a certificate text says.
 #[derive(Drop)]

@@ -1,9 +1,9 @@
 ghost use Rattle.std.specs.Prelude.{◌≡◌, ◌≢◌, ◌==◌, ◌<◌, IsTrue, List, [], ◌∷◌, IfOk, length, MatchOption, position};
 ghost use Rattle.std.specs.Result.{result_err};
 ghost use Rattle.certificate.specs.Building.{AreRead, IsContentAt, said_above, said_content};
-ghost use Rattle.certificate.specs.Contents.{IsReadAs, Section as Said, Spells, are_in_order, spelling};
-ghost use Rattle.certificate.specs.Text.{Line as TextLine, first_fault, has_below, heading_fault, is_heading, lines};
-ghost use Rattle.certificate.specs.declared.Version.{Version as TextVersion};
+ghost use Rattle.certificate.specs.Contents.{IsReadAs, Section as Said, Spells, are_in_order, heading, spelling};
+ghost use Rattle.certificate.specs.Text.{Line as TextLine, first_fault, has_below, is_heading, lines, version_of};
+ghost use Rattle.domain.specs.declared.versions.Version.{Version as TextVersion};
 ghost use Rattle.memory.specs.Refused.{the_refusal};
 ghost use Rattle.certificate.specs.declared.fault.ReadFault.TheVariants.{Memory};
 
@@ -12,10 +12,9 @@ use crate::claim::{Content, reading};
 use crate::fault::ReadFault;
 use crate::order::Above;
 use crate::words::{LineFault, is_number};
-use crate::{Certificate, Section, Version};
+use crate::{Certificate, Section};
+use domain::versions::Version;
 use std::alloc::Global;
-
-const HEADING: &[u8] = b"pcert 1";
 
 /// A line of a text, without its line end.
 #[derive(Clone, Copy)]
@@ -34,34 +33,43 @@ pub fn read(alloc: Global, text: &[u8]) -> Result<Certificate, ReadFault>
     // The certificate is in order, and the text is its spelling.
     ensures exact { IfOk result (Spells text.now) }
     // A text that spells sections in order is read, unless memory runs out, and no other sections are answered.
-    ensures only { (version : TextVersion) (sections : List Said) → IsTrue (are_in_order sections)
+    ensures only { (version : TextVersion) (sections : List Said) → IsTrue (are_in_order version sections)
         → text.now ≡ spelling version sections → IsReadAs sections result }
     ensures fault { result_err result ≢ Some (Memory the_refusal) → result_err result ≡ first_fault text.now }
 {
     let Some((first, below)) = next_line(text) else {
         return Err(ReadFault::FirstLine { line: 1 });
     };
-    let version = heading(first)?;
-    let sections = sections(alloc, below)?;
+    let version = version_of(first)?;
+    let sections = sections(alloc, version, below)?;
     Ok(Certificate { version, sections })
 }
 
+/// The first line of a certificate of a version.
+pub(crate) fn heading(version: Version) -> &'static [u8]
+    ensures { result.now ≡ heading version }
+{
+    match version {
+        Version::One => b"pcert 1",
+    }
+}
+
 /// The version that a first line names.
-fn heading(line: Line<'_>) -> Result<Version, ReadFault>
-    ensures { result_err result ≡ heading_fault (record { bytes = line.entry.bytes.now; ended = line.entry.ended }) }
+fn version_of(line: Line<'_>) -> Result<Version, ReadFault>
+    ensures { result ≡ version_of (record { bytes = line.entry.bytes.now; ended = line.entry.ended }) }
 {
     if !line.ended {
         return Err(ReadFault::Unended { line: 1 });
     }
-    if *line.bytes != *HEADING {
+    if line.bytes != heading(Version::One) {
         return Err(ReadFault::FirstLine { line: 1 });
     }
     Ok(Version::One)
 }
 
-/// What the lines below the heading say.
-fn sections(alloc: Global, below: &[u8]) -> Result<Vec<Section>, ReadFault>
-    ensures { AreRead result (lines below.now) }
+/// What the lines below the heading of a version say.
+fn sections(alloc: Global, version: Version, below: &[u8]) -> Result<Vec<Section>, ReadFault>
+    ensures { AreRead version result (lines below.now) }
 {
     let mut sections = Vec::new(alloc);
     let mut above = Above {
@@ -72,7 +80,7 @@ fn sections(alloc: Global, below: &[u8]) -> Result<Vec<Section>, ReadFault>
     let mut number = 2;
     let mut rest = below;
     while let Some((line, more)) = next_line(rest) {
-        let content = content_at(number, &above, line, more)?;
+        let content = content_at(version, number, &above, line, more)?;
         above = above.below(&content);
         add(alloc, &mut sections, &content)?;
         number += 1;
@@ -83,21 +91,22 @@ fn sections(alloc: Global, below: &[u8]) -> Result<Vec<Section>, ReadFault>
 
 /// What a line below the heading says, which has more lines below it.
 fn content_at<'a>(
+    version: Version,
     number: u64,
     above: &Above<'_>,
     line: Line<'a>,
     more: &[u8],
 ) -> Result<Content<'a>, ReadFault>
-    ensures { IsContentAt result number (said_above above.now)
+    ensures { IsContentAt version result number (said_above above.now)
         (record { bytes = line.entry.bytes.now; ended = line.entry.ended }) (lines more.now) }
 {
     if !line.ended {
         return Err(ReadFault::Unended { line: number });
     }
-    if *line.bytes == *HEADING {
+    if line.bytes == heading(version) {
         return Err(ReadFault::OutOfOrder { line: number });
     }
-    match reading(line.bytes) {
+    match reading(version, line.bytes) {
         Err(LineFault::NotInGrammar) => Err(ReadFault::NotInGrammar { line: number }),
         Err(LineFault::OutOfRange) => Err(ReadFault::OutOfRange { line: number }),
         Ok(content) => {

@@ -2,10 +2,10 @@
 ghost use Rattle.std.specs.Prelude.{◌≡◌, [], ◌++◌, IfOk, IsTrue, decimal, map};
 ghost use Rattle.std.specs.Fmt.{signed_decimal};
 ghost use Rattle.std.specs.List.{flat_map};
-ghost use Rattle.domain.specs.Facts.{said_bound, said_path, said_step};
-ghost use Rattle.certificate.specs.Bounds.{bound_words, offset};
-ghost use Rattle.certificate.specs.Contents.{IsReadAs, Spells, are_in_order, contents, ended, loop_of, said_fact};
-ghost use Rattle.certificate.specs.Contents.{section_of, spelling};
+ghost use Rattle.domain.specs.Facts.{said_bound, said_path, said_span, said_spans, said_step};
+ghost use Rattle.certificate.specs.Bounds.{bound_words, offset, span_words};
+ghost use Rattle.certificate.specs.Contents.{IsReadAs, Spells, are_in_order, contents, ended, heading, loop_of};
+ghost use Rattle.certificate.specs.Contents.{said_fact, section_of, spelling};
 ghost use Rattle.certificate.specs.Lines.{fact_words};
 ghost use Rattle.certificate.specs.Paths.{path_words, step_words};
 ghost use Rattle.certificate.specs.Words.{variable};
@@ -13,9 +13,10 @@ ghost use Rattle.certificate.specs.Writing.{Appends, alias_line, change_line, fa
 
 use crate::facts::Fact;
 use crate::fault::ReadFault;
-use crate::reader::read;
-use crate::{AliasPair, Certificate, LoopClaims, Section, Version};
-use domain::facts::{Bound, Path, Step};
+use crate::reader::{heading, read};
+use crate::{AliasPair, Certificate, LoopClaims, Section};
+use domain::facts::{Bound, Path, Span, Spans, Step};
+use domain::versions::Version;
 use itoa::Buffer;
 use std::alloc::{AllocError, Global};
 
@@ -27,16 +28,14 @@ pub fn write(alloc: Global, certificate: &Certificate) -> Result<Vec<u8>, AllocE
     // What is written is the one spelling of what the certificate says.
     ensures exact { IfOk result (λ text. text.items ≡ spelling certificate.now.version (contents certificate.now)) }
     // A certificate in order is read from it, as `read` promises.
-    ensures spells { IsTrue (are_in_order (contents certificate.now))
+    ensures spells { IsTrue (are_in_order certificate.now.version (contents certificate.now))
         → IfOk result (λ text. Spells text.items certificate.now) }
 {
     let mut writer = Writer {
         text: Vec::new(alloc),
         refused: None,
     };
-    match certificate.version {
-        Version::One => writer.append(b"pcert 1\n"),
-    }
+    writer.heading(certificate.version);
     writer.sections(&certificate.sections);
     match writer.refused {
         Some(error) => Err(error),
@@ -49,7 +48,8 @@ pub fn write(alloc: Global, certificate: &Certificate) -> Result<Vec<u8>, AllocE
 /// # Errors
 /// `Memory`, and no other where the certificate is in order.
 pub fn read_again(alloc: Global, certificate: &Certificate) -> Result<Certificate, ReadFault>
-    ensures { IsTrue (are_in_order (contents certificate.now)) → IsReadAs (contents certificate.now) result }
+    ensures { IsTrue (are_in_order certificate.now.version (contents certificate.now))
+        → IsReadAs (contents certificate.now) result }
 {
     let text = write(alloc, certificate)?;
     read(alloc, &text)
@@ -69,6 +69,13 @@ impl Writer {
         if let Err(error) = self.text.extend_from_slice(bytes) {
             self.refused = Some(error);
         }
+    }
+
+    fn heading(&mut self, version: Version)
+        ensures { Appends (ended (heading version)) self.old self.new }
+    {
+        self.append(heading(version));
+        self.append(b"\n");
     }
 
     fn sections(&mut self, sections: &[Section])
@@ -157,11 +164,9 @@ impl Writer {
                 self.constant(b" ", range.first());
                 self.constant(b" ", range.last());
             }
-            Fact::Defined { path } => self.path(b"defined ", path),
-            Fact::Stretch { path, first, last } => {
+            Fact::Defined { path, spans } => {
                 self.path(b"defined ", path);
-                self.bound(b" ", *first);
-                self.bound(b" ", *last);
+                self.spans(*spans);
             }
             Fact::Order {
                 root,
@@ -173,6 +178,22 @@ impl Writer {
                 self.constant(b" ", i64::from(*number));
             }
         }
+    }
+
+    fn spans(&mut self, spans: Spans)
+        ensures { Appends (flat_map span_words (said_spans spans)) self.old self.new }
+    {
+        match spans {
+            Spans::None => {}
+            Spans::One(span) => self.span(span),
+        }
+    }
+
+    fn span(&mut self, span: Span)
+        ensures { Appends (span_words (said_span span)) self.old self.new }
+    {
+        self.bound(b" ", span.first);
+        self.bound(b" ", span.last);
     }
 
     // The methods from here on write what stands before, and then a word of a line.

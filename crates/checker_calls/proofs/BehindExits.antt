@@ -1,6 +1,6 @@
 -- What is known behind a call holds there, with the facts that are claimed of the end of the callee's block.
 use Rattle.std.proofs.Common.{arith, ◌≡◌, ⊎_elim, ◌⊎◌, ◌∙◌, sym, ap, refl, subst, ℕ, Bool, true, false, cond, not, ◌&&◌}
-use Rattle.std.proofs.Common.{ℤ, pos, ◌+ℤ◌, ◌-ℤ◌, ◌≤ℤ◌, nat_eq, List, [], ◌∷◌, length, map, Option, Some, None}
+use Rattle.std.proofs.Common.{ℤ, pos, ◌+ℤ◌, ◌-ℤ◌, ◌≤ℤ◌, nat_eq, List, [], ◌∷◌, ◌++◌, length, map, Option, Some, None}
 use Rattle.std.specs.List.{Contains}
 use Rattle.std.specs.Prelude.{slice_get}
 use Rattle.std.proofs.lemmas.Bool.{and_from, and_parts, cond_both, eq-eqb, false≢true}
@@ -42,7 +42,7 @@ use Rattle.checker_state.proofs.Bounds.{moved-is}
 use Rattle.checker_state.proofs.Changed.{bound-stays}
 use Rattle.checker_state.proofs.Given.{first-of}
 use Rattle.checker_state.proofs.Looped.{claim-holds}
-use Rattle.checker_loops.specs.Loops.{rows_named, said, said_bound, stretch_of}
+use Rattle.checker_loops.specs.Loops.{defined_of, rows_named, said, said_bound}
 use Rattle.checker_loops.specs.Sections.{BlockClaims}
 use Rattle.checker_loops.specs.Starts.{is_passed_value}
 use Rattle.checker_loops.proofs.VariableRows.{no-way, variable-row}
@@ -50,9 +50,9 @@ use Rattle.checker_loops.proofs.Lists.{among-contains, contains-more, in-map, in
 use Rattle.checker_calls.specs.Actuals.{Actual, Bearer, Binding, OfRows, OfValue, OfVariable, Passed, Reached, actual_of, all_of_rows, bearers_for}
 use Rattle.checker_calls.specs.Actuals.{bearers_named, bearers_of, bound_to}
 use Rattle.checker_calls.specs.Environments.{LeavesPassed}
-use Rattle.checker_calls.specs.Exit.{Touches, bearer_defined, bearers_defined, behind_call, bounds_ordered, exit_bound, exit_bound_of, exit_plus, has_actual}
-use Rattle.checker_calls.specs.Exit.{is_own_path, is_steady, row_between, steady_bound, stretch_defined, stretches_defined, touched_behind, touches_of}
-use Rattle.checker_calls.specs.Exit.{untouched_form, variables_ordered, with_exit, with_exits}
+use Rattle.checker_calls.specs.Exit.{Touches, bearer_defined, bearers_defined, behind_call, bounds_ordered, exit_bound, exit_bound_of, exit_plus, exit_spans}
+use Rattle.checker_calls.specs.Exit.{has_actual, is_own_path, is_steady, row_defined, span_between, steady_bound, touched_behind}
+use Rattle.checker_calls.specs.Exit.{touches_of, untouched_form, variables_ordered, with_exit, with_exits}
 use Rattle.checker_calls.proofs.Assigned.{Received}
 use Rattle.checker_calls.proofs.Bearers.{bearer-from, named-root}
 use Rattle.checker_calls.proofs.Behind.{call-kept, touched-behind_known}
@@ -63,7 +63,7 @@ use Rattle.checker_calls.proofs.Callee.{activation_of}
 use Rattle.checker_calls.proofs.Entered.{behind_assignments, parameter-own}
 use Rattle.checker_calls.proofs.ExitBearers.{Bears, IsSame, Lies, outer-bears, outer-same, parameter-bears, passed-lies}
 use Rattle.checker_calls.proofs.FormalRows.{same-value}
-use Rattle.checker_calls.proofs.Given.{AreOutward, bound_roots, fact_roots}
+use Rattle.checker_calls.proofs.Given.{AreOutward, bound_roots, fact_roots, span_roots}
 use Rattle.checker_calls.proofs.Headings.{one-there}
 use Rattle.checker_calls.proofs.Parameters.{IsOuter, IsOutward, IsParameter, actual-of_parameter, outward-cases, parameter-block}
 use Rattle.checker_calls.proofs.Origins.{rows-same}
@@ -81,8 +81,8 @@ IsResultOf tree number root =
 
 abbrev pub IsOwnResult : Tree → ℕ → Fact → Type 0
 IsOwnResult tree number (fact.Range path range) = IsResultOf tree number path.root
-IsOwnResult tree number (fact.Defined path) = IsResultOf tree number path.root
-IsOwnResult tree number (fact.Stretch path first last) = ⊥
+IsOwnResult tree number (fact.Defined path []) = IsResultOf tree number path.root
+IsOwnResult tree number (fact.Defined path (span ∷ spans)) = ⊥
 IsOwnResult tree number (fact.Order root other k) = ⊥
 
 -- what was passed to variables that are value parameters is as it was
@@ -356,48 +356,43 @@ module _ (tree : Tree) (pairs : List (ℕ × ℕ)) (number : ℕ) (block : Block
       let (low, high, low_is, high_is, each) = span-parts (all_parts tree) inner row (constant range.first) (constant range.last) claim in
       each steps at.0 of_row at.1 (subst (λ (n : ℤ). n ≤ℤ at.0) low_is at.2) (subst (λ (n : ℤ). at.0 ≤ℤ n) high_is at.3)
 
-  -- what a path names is defined
-  bearer-defined : (path : Path) → Contains claims.exit (fact.Defined path) → (bearer : Bearer) → IsSeen path bearer → (known : State) → KnowsHere known
-      → KnowsHere (bearer_defined tree bearer known)
-  bearer-defined path listed (Passed range) seen known knows = knows
-  bearer-defined path listed (Reached own reach) (row, named, bears) known knows =
-      unless-entire reach (with_claim (all_of_row (index_at (rows_of tree) own) own) known) known
-      (λ all.
-      claim-known (all_of_row (index_at (rows_of tree) own) own) known
-      (whole-claim own (index_at (rows_of tree) own)
-      (λ steps of_row.
-      let same = bears all steps of_row in
-      let has = whole-has row (index_at (rows_of tree) row) refl
-      (exit-here (fact.Defined path) (all_of_row (index_at (rows_of tree) row) row) listed
-      (in-map (λ r. all_of_row (index_at (rows_of tree) r) r) (rows_named tree path) row named)) same.rest same.of_row in
-      (has.0, same.value ∙ has.1))) knows) knows
-
-  all-defined : (path : Path) → Contains claims.exit (fact.Defined path) → (bearers : List Bearer)
-      → ((bearer : Bearer) → Contains bearers bearer → IsSeen path bearer)
-      → (known : State) → KnowsHere known → KnowsHere (bearers_defined tree bearers known)
-  all-defined path listed [] seen known knows = knows
-  all-defined path listed (bearer ∷ bearers) seen known knows =
-      all-defined path listed bearers (λ other later. seen other (contains-more bearer bearers other later)) (bearer_defined tree bearer known)
-      (bearer-defined path listed bearer (seen bearer (0, omega arith, refl)) known knows)
-
   -- a bound of the callee is one of the caller's, if that is there
   abbrev BecomesBound : fact.Bound → Option Bound → Type 0
   BecomesBound bound found = (n : ℤ) → IsBound inner (said_bound bound) n → (b : Bound) → found ≡ Some b → IsBound outer b n
 
-  -- a stretch of what a path names
-  row-stretch : (path : Path) (first last : fact.Bound) (low high : Option Bound) → Contains claims.exit (fact.Stretch path first last)
-      → BecomesBound first low → BecomesBound last high → (own row : ℕ) → Contains (rows_named tree path) row
-      → ((steps : List Step) → IsOf tree own steps
-      → IsSame tree pairs number block arguments caller activations from store actuals claims after back.left row own steps) → (known : State)
-      → KnowsHere known → KnowsHere (row_between tree low high own known)
-  row-stretch path first last None high listed low_is high_is own row named same known knows = knows
-  row-stretch path first last (Some low) None listed low_is high_is own row named same known knows = knows
-  row-stretch path first last (Some low) (Some high) listed low_is high_is own row named same known knows =
+  -- what is known of a row that a path names, as rows that bear it are defined
+  abbrev SameRow : ℕ → ℕ → Type 0
+  SameRow row own =
+      (steps : List Step) → IsOf tree own steps
+      → IsSame tree pairs number block arguments caller activations from store actuals claims after back.left row own steps
+
+  abbrev DefinesRow : Path → Option (List Span) → Type 0
+  DefinesRow path found =
+      (own row : ℕ) → Contains (rows_named tree path) row → SameRow row own → (known : State) → KnowsHere known
+      → KnowsHere (row_defined tree found own known)
+
+  whole-row : (path : Path) → Contains claims.exit (fact.Defined path []) → DefinesRow path (Some [])
+  whole-row path listed own row named same known knows =
+      claim-known (all_of_row (index_at (rows_of tree) own) own) known
+      (whole-claim own (index_at (rows_of tree) own)
+      (λ steps of_row.
+      let at = same steps of_row in
+      let has = whole-has row (index_at (rows_of tree) row) refl
+      (exit-here (fact.Defined path []) (defined_of tree [] row) listed (in-map (defined_of tree []) (rows_named tree path) row named))
+      at.rest at.of_row in
+      (has.0, at.value ∙ has.1))) knows
+
+  row-between : (path : Path) (span : fact.Span) (low high : Option Bound) → Contains claims.exit (fact.Defined path (span ∷ []))
+      → BecomesBound span.first low → BecomesBound span.last high → DefinesRow path (span_between low high)
+  row-between path span None high listed low_is high_is own row named same known knows = knows
+  row-between path span (Some low) None listed low_is high_is own row named same known knows = knows
+  row-between path span (Some low) (Some high) listed low_is high_is own row named same known knows =
       let claim : Claim = state.Holds (Stretched (one_span own low high)) in
       cond_both (is_variable_row tree own) known (with_claim claim known) KnowsHere (λ variable. knows)
       (λ other.
-      let (from_first, to_last, first_is, last_is, each) = span-parts (all_parts tree) inner row (said_bound first) (said_bound last)
-      (exit-here (fact.Stretch path first last) (stretch_of first last row) listed (in-map (stretch_of first last) (rows_named tree path) row named)) in
+      let (from_first, to_last, first_is, last_is, each) = span-parts (all_parts tree) inner row (said_bound span.first) (said_bound span.last)
+      (exit-here (fact.Defined path (span ∷ [])) (defined_of tree (span ∷ []) row) listed
+      (in-map (defined_of tree (span ∷ [])) (rows_named tree path) row named)) in
       claim-known claim known
       (span-holds (all_parts tree) outer own low high from_first to_last (low_is from_first first_is low refl) (high_is to_last last_is high refl)
       (λ steps index of_row is above below.
@@ -405,22 +400,20 @@ module _ (tree : Tree) (pairs : List (ℕ × ℕ)) (number : ℕ) (block : Block
       let has = each at.rest index at.of_row (sym at.first ∙ is) above below in
       (has.0, at.value ∙ has.1))) knows)
 
-  bearer-stretch : (path : Path) (first last : fact.Bound) (low high : Option Bound) → Contains claims.exit (fact.Stretch path first last)
-      → BecomesBound first low → BecomesBound last high → (bearer : Bearer) → IsSeen path bearer → (known : State) → KnowsHere known
-      → KnowsHere (stretch_defined tree low high bearer known)
-  bearer-stretch path first last low high listed low_is high_is (Passed range) seen known knows = knows
-  bearer-stretch path first last low high listed low_is high_is (Reached own reach) (row, named, bears) known knows =
-      unless-entire reach (row_between tree low high own known) known
-      (λ all. row-stretch path first last low high listed low_is high_is own row named (λ steps of_row. bears all steps of_row) known knows) knows
+  -- so it is of what bears rows of a path
+  bearer-defined : (path : Path) (found : Option (List Span)) → DefinesRow path found → (bearer : Bearer) → IsSeen path bearer → (known : State)
+      → KnowsHere known → KnowsHere (bearer_defined tree found bearer known)
+  bearer-defined path found defines (Passed range) seen known knows = knows
+  bearer-defined path found defines (Reached own reach) (row, named, bears) known knows =
+      unless-entire reach (row_defined tree found own known) known (λ all. defines own row named (λ steps of_row. bears all steps of_row) known knows) knows
 
-  all-stretches : (path : Path) (first last : fact.Bound) (low high : Option Bound) → Contains claims.exit (fact.Stretch path first last)
-      → BecomesBound first low → BecomesBound last high → (bearers : List Bearer) → ((bearer : Bearer) → Contains bearers bearer → IsSeen path bearer)
-      → (known : State) → KnowsHere known → KnowsHere (stretches_defined tree low high bearers known)
-  all-stretches path first last low high listed low_is high_is [] seen known knows = knows
-  all-stretches path first last low high listed low_is high_is (bearer ∷ bearers) seen known knows =
-      all-stretches path first last low high listed low_is high_is bearers (λ other later. seen other (contains-more bearer bearers other later))
-      (stretch_defined tree low high bearer known)
-      (bearer-stretch path first last low high listed low_is high_is bearer (seen bearer (0, omega arith, refl)) known knows)
+  all-defined : (path : Path) (found : Option (List Span)) → DefinesRow path found → (bearers : List Bearer)
+      → ((bearer : Bearer) → Contains bearers bearer → IsSeen path bearer)
+      → (known : State) → KnowsHere known → KnowsHere (bearers_defined tree found bearers known)
+  all-defined path found defines [] seen known knows = knows
+  all-defined path found defines (bearer ∷ bearers) seen known knows =
+      all-defined path found defines bearers (λ other later. seen other (contains-more bearer bearers other later)) (bearer_defined tree found bearer known)
+      (bearer-defined path found defines bearer (seen bearer (0, omega arith, refl)) known knows)
 
   -- an order of two bounds
   variables-known : (one other : Option ℕ) (k l m n : ℤ) → IsBoundBy outer one k m → IsBoundBy outer other l n → m ≤ℤ n → (known : State) → KnowsHere known
@@ -475,28 +468,36 @@ module _ (tree : Tree) (pairs : List (ℕ × ℕ)) (number : ℕ) (block : Block
       lasts.lasting other variable (subst (Contains (fact_roots one)) (in-one root other own) inside) variable_is value)
       has n_is b bound_is
 
+  spans-define : (path : Path) (spans : List fact.Span) → IsLasting tree number claims.changes (fact.Defined path spans)
+      → Contains claims.exit (fact.Defined path spans) → DefinesRow path (exit_spans tree bindings touches spans)
+  spans-define path [] lasts listed = whole-row path listed
+  spans-define path (span ∷ []) lasts listed =
+      let one = fact.Defined path (span ∷ []) in
+      let own_root = λ (root : ℕ) (inside : Contains (span_roots span) root).
+      contains-more path.root (span_roots span ++ []) root (Contains-append_left (span_roots span) [] root inside) in
+      row-between path span (exit_bound tree bindings touches span.first) (exit_bound tree bindings touches span.last) listed
+      (bound-here span.first one lasts
+      (λ root inside. own_root root (Contains-append_left (bound_roots span.first) (bound_roots span.last) root inside)))
+      (bound-here span.last one lasts
+      (λ root inside. own_root root (Contains-append_right (bound_roots span.first) (bound_roots span.last) root inside)))
+  spans-define path (span ∷ other ∷ spans) lasts listed = λ own row named same known knows. knows
+
+  -- the whole of a result is a claim on what the callee alone knows
+  own-whole : (path : Path) (spans : List fact.Span) → IsOwnResult tree number (fact.Defined path spans) → is_own_here path ≡ true
+  own-whole path [] result = own-result path result
+  own-whole path (span ∷ spans) never = absurd never
+
   exit-known : (one : Fact) → Contains claims.exit one → MayEnd tree number claims.changes one → (known : State) → KnowsHere known
       → KnowsHere (with_exit tree number bindings touches one known)
   exit-known (fact.Range path range) listed may known knows = knows
-  exit-known (fact.Defined path) listed may known knows =
-      either-own path known (bearers_defined tree (bearers_named tree bindings path) known)
+  exit-known (fact.Defined path spans) listed may known knows =
+      let found = exit_spans tree bindings touches spans in
+      either-own path known (bearers_defined tree found (bearers_named tree bindings path) known)
       (λ not_own.
-      ⊎_elim (λ result. absurd (false≢true (sym not_own ∙ own-result path result)))
-      (λ (lasts : IsLasting tree number claims.changes (fact.Defined path)).
-      all-defined path listed (bearers_named tree bindings path) (bearers-seen path (lasts.outward path.root (0, omega arith, refl))) known knows) may) knows
-  exit-known (fact.Stretch path first last) listed may known knows =
-      let low = exit_bound tree bindings touches first in
-      let high = exit_bound tree bindings touches last in
-      either-own path known (stretches_defined tree low high (bearers_named tree bindings path) known)
-      (λ not_own.
-      ⊎_elim (λ never. absurd never)
-      (λ (lasts : IsLasting tree number claims.changes (fact.Stretch path first last)).
-      all-stretches path first last low high listed
-      (bound-here first (fact.Stretch path first last) lasts
-      (λ root inside. contains-more path.root _ root (Contains-append_left (bound_roots first) (bound_roots last) root inside)))
-      (bound-here last (fact.Stretch path first last) lasts
-      (λ root inside. contains-more path.root _ root (Contains-append_right (bound_roots first) (bound_roots last) root inside)))
-      (bearers_named tree bindings path) (bearers-seen path (lasts.outward path.root (0, omega arith, refl))) known knows) may) knows
+      ⊎_elim (λ result. absurd (false≢true (sym not_own ∙ own-whole path spans result)))
+      (λ (lasts : IsLasting tree number claims.changes (fact.Defined path spans)).
+      all-defined path found (spans-define path spans lasts listed) (bearers_named tree bindings path)
+      (bearers-seen path (lasts.outward path.root (0, omega arith, refl))) known knows) may) knows
   exit-known (fact.Order root other k) listed may known knows =
       ⊎_elim (λ never. absurd never)
       (λ (lasts : IsLasting tree number claims.changes (fact.Order root other k)).

@@ -130,8 +130,7 @@ module _ (tree : Tree) (pairs : List (ℕ × ℕ)) (number : ℕ) (block : Block
           (λ among.
           exit-holds (fact.Range path range) (Range row range) listed
           (in-map (λ r. Range r range) (rows_named tree path) row (among-contains (rows_named tree path) row among)) steps v of_row is)
-      own (fact.Defined path) listed = inside
-      own (fact.Stretch path first last) listed = inside
+      own (fact.Defined path spans) listed = inside
       own (Order a b n) listed = inside
 
   in_types : InTypes tree callee after

@@ -1,7 +1,7 @@
 -- What is given where a block is called holds where it begins: each formal parameter has what its actual one has.
 use Rattle.std.proofs.Common.{arith, ◌≡◌, ⊎_elim, ◌∙◌, sym, ap, refl, subst, ℕ, ℤ, ◌+ℤ◌, ◌≤ℤ◌, pos, Bool, true, false, ◌&&◌, ◌||◌, not, nat_eq}
 use Rattle.std.proofs.Common.{List, [], ◌∷◌, ◌++◌, map, length, int_le, Option, Some, None}
-use Rattle.std.specs.List.{All, Contains, list_all, list_any}
+use Rattle.std.specs.List.{All, Contains, flat_map, list_all, list_any}
 use Rattle.std.specs.Prelude.{is_some, option_map, slice_get}
 use Rattle.std.proofs.lemmas.Bool.{and_parts, eqb-true, false≢true, or_cases}
 use Rattle.std.proofs.lemmas.Int.{ints}
@@ -53,7 +53,7 @@ use Rattle.checker_rows.proofs.Accessed.{IsOf}
 use Rattle.checker_state.proofs.Given.{first-of, value-is}
 use Rattle.checker_state.proofs.Bounded.{bound-here}
 use Rattle.checker_loops.proofs.Tabled.{are-rows}
-use Rattle.checker_loops.specs.Loops.{all_said, gives_claims, rows_named, said, said_bound, stretch_of}
+use Rattle.checker_loops.specs.Loops.{all_said, defined_of, gives_claims, rows_named, said, said_bound}
 use Rattle.checker_state.specs.State.{table_of}
 use Rattle.checker_state.proofs.Bounds.{le-is, raised-is, told-of}
 use Rattle.checker_state.specs.Bounds.{Bound, constant, plus, raised_bound}
@@ -74,10 +74,12 @@ abbrev pub bound_roots : fact.Bound → List ℕ
 bound_roots (fact.Number n) = []
 bound_roots (fact.Plus root n) = root ∷ []
 
+abbrev pub span_roots : fact.Span → List ℕ
+span_roots span = bound_roots span.first ++ bound_roots span.last
+
 abbrev pub fact_roots : Fact → List ℕ
 fact_roots (fact.Range path range) = path.root ∷ []
-fact_roots (fact.Defined path) = path.root ∷ []
-fact_roots (fact.Stretch path first last) = path.root ∷ (bound_roots first ++ bound_roots last)
+fact_roots (fact.Defined path spans) = path.root ∷ flat_map span_roots spans
 fact_roots (fact.Order root other number) = root ∷ other ∷ []
 
 -- the caller of a block may know each of them
@@ -485,23 +487,19 @@ module _ (tree : Tree) (pairs : List (ℕ × ℕ)) (number : ℕ) (block : Block
   in-root path row steps inside has = subst (λ (r : ℕ). HasValue inner r steps) (sym (named-root tree path row inside)) has
 
   -- a component between two bounds of the callee
-  stretch-given : (path : Path) (first last : fact.Bound) → AreOutward tree number (fact.Stretch path first last)
-      → is_given tree bindings state (fact.Stretch path first last) ≡ true → (row : ℕ) → Contains (rows_named tree path) row
-      → HoldsHere (stretch_of first last row)
-  stretch-given path first last outward is row inside =
+  stretch-given : (path : Path) (span : fact.Span) → AreOutward tree number (fact.Defined path (span ∷ []))
+      → is_given tree bindings state (fact.Defined path (span ∷ [])) ≡ true → (row : ℕ) → Contains (rows_named tree path) row
+      → HoldsHere (defined_of tree (span ∷ []) row)
+  stretch-given path span outward is row inside =
       let bearers = bearers_named tree bindings path in
       let (a, b, a_is, b_is, a_has, b_has, either) = both-limits
       (λ a b. is_at_most state (limit_moved (pos 1) b) a || list_all (is_borne_between tree state a b) bearers)
-      (limit_of_bound tree state bindings first) (limit_of_bound tree state bindings last) (are_borne_between tree state bearers)
+      (limit_of_bound tree state bindings span.first) (limit_of_bound tree state bindings span.last) (are_borne_between tree state bearers)
       (λ a b. refl) (λ b. refl) (λ a. refl) is in
-      let low = bound-limit first a
-      (λ r own. outward r (contains-more path.root (bound_roots first ++ bound_roots last) r
-      (Contains-append_left (bound_roots first) (bound_roots last) r own)))
-      a_is a_has in
-      let high = bound-limit last b
-      (λ r own. outward r (contains-more path.root (bound_roots first ++ bound_roots last) r
-      (Contains-append_right (bound_roots first) (bound_roots last) r own)))
-      b_is b_has in
+      let own_root = λ (r : ℕ) (own : Contains (span_roots span) r).
+      outward r (contains-more path.root (span_roots span ++ []) r (Contains-append_left (span_roots span) [] r own)) in
+      let low = bound-limit span.first a (λ r own. own_root r (Contains-append_left (bound_roots span.first) (bound_roots span.last) r own)) a_is a_has in
+      let high = bound-limit span.last b (λ r own. own_root r (Contains-append_right (bound_roots span.first) (bound_roots span.last) r own)) b_is b_has in
       let lies = λ (steps : List Step) (index : ℤ) (of_row : IsOf tree row steps) (at : first_index steps ≡ Some index)
       (above : low.n ≤ℤ index) (below : index ≤ℤ high.n).
       ⊎_elim
@@ -530,8 +528,8 @@ module _ (tree : Tree) (pairs : List (ℕ × ℕ)) (number : ℕ) (block : Block
       range-given borne.bearer path.root steps range v borne.borne
       (all-bearers (λ bearer. is_included (range_borne state bearer) range) (bearers_named tree bindings path) borne.bearer is borne.inside)
       (subst (λ (r : ℕ). value_at inner r steps ≡ Some v) (named-root tree path row inside) there))
-  claims-given (fact.Defined path) outward is =
-      each-row (rows_named tree path) (λ row. all_of_row (index_at (rows_of tree) row) row)
+  claims-given (fact.Defined path []) outward is =
+      each-row (rows_named tree path) (defined_of tree [])
       (λ row inside.
       whole-given row (index_at (rows_of tree) row)
       (λ steps of_row.
@@ -539,8 +537,9 @@ module _ (tree : Tree) (pairs : List (ℕ × ℕ)) (number : ℕ) (block : Block
       in-root path row steps inside
       (defined-given borne.bearer path.root steps borne.borne
       (all-bearers (is_defined_borne tree state) (bearers_named tree bindings path) borne.bearer is borne.inside))))
-  claims-given (fact.Stretch path first last) outward is =
-      each-row (rows_named tree path) (stretch_of first last) (stretch-given path first last outward is)
+  claims-given (fact.Defined path (span ∷ [])) outward is =
+      each-row (rows_named tree path) (defined_of tree (span ∷ [])) (stretch-given path span outward is)
+  claims-given (fact.Defined path (span ∷ other ∷ spans)) outward is = absurd (false≢true is)
   claims-given (fact.Order root other k) outward is =
       All-cons HoldsHere (Holding (Ordered root other k)) [] (order-given root other k outward is) (All-nil HoldsHere)
 

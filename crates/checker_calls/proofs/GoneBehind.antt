@@ -4,21 +4,20 @@ use Rattle.std.proofs.Common.{append-nil, get_or, length, map, take, Option, Som
 use Rattle.std.specs.Prelude.{slice_get}
 use Rattle.std.proofs.lemmas.List.Concat.{flat_map-append}
 use Rattle.domain.specs.Facts as fact
-use Rattle.domain.specs.Facts.{Defined, Fact, Path, Stretch}
+use Rattle.domain.specs.Facts.{Defined, Fact, Path}
 use Rattle.domain.specs.Interval.{Interval}
 use Rattle.typed_tree.specs.declared.tree.Tree.{Tree}
-use Rattle.checker_rows.specs.Rows.{index_at, rows_of, rows_touched, rows_under}
+use Rattle.checker_rows.specs.Rows.{rows_touched, rows_under}
 use Rattle.checker_state.specs.Bounds.{Bound}
 use Rattle.checker_state.specs.Changes.{ordered, with_some}
-use Rattle.checker_state.specs.Loops.{with_claim}
-use Rattle.checker_state.specs.State.{Claim, State}
-use Rattle.checker_state.specs.Stores.{Reach, all_of_row, is_entire}
+use Rattle.checker_state.specs.State.{Span, State}
+use Rattle.checker_state.specs.Stores.{Reach, is_entire}
 use Rattle.checker_trail.specs.declared.state.State.{State as Kept}
 use Rattle.checker_trail.specs.Trail.{Moves}
 use Rattle.checker_trail.proofs.Ways.{moves-more}
 use Rattle.checker_calls.specs.Actuals.{Bearer, Binding, Passed, Reached, all_of_rows, bearers_named}
-use Rattle.checker_calls.specs.Exit.{Change, Touches, bearers_defined, bounds_ordered, exit_bound, is_own_path, row_behind, row_between, rows_behind}
-use Rattle.checker_calls.specs.Exit.{stretches_defined, variables_ordered, with_exit, with_exits}
+use Rattle.checker_calls.specs.Exit.{Change, Touches, bearers_defined, bounds_ordered, exit_spans, is_own_path, row_behind, row_defined, rows_behind}
+use Rattle.checker_calls.specs.Exit.{variables_ordered, with_exit, with_exits}
 use Rattle.checker_calls.specs.ExitView.{rows_outside, whole_rows}
 use Rattle.checker_calls.proofs.RowsBehind.{behind-append}
 
@@ -59,22 +58,10 @@ exits-append tree block bindings touches (one ∷ facts) fact state =
 
 -- ---- bearers
 
-defined-append : (tree : Tree) (rows : List ℕ) (row : ℕ) (state : State)
-    → with_claim (all_of_row (index_at (rows_of tree) row) row) (bearers_defined tree (all_of_rows rows) state)
-    ≡ bearers_defined tree (all_of_rows (rows ++ row ∷ [])) state
-defined-append tree [] row state = refl
-defined-append tree (one ∷ rows) row state = defined-append tree rows row (with_claim (all_of_row (index_at (rows_of tree) one) one) state)
-
-pub defined-row : (tree : Tree) (rows : List ℕ) (row : ℕ) (claim : Claim) (state : State) → claim ≡ all_of_row (index_at (rows_of tree) row) row
-    → with_claim claim (bearers_defined tree (all_of_rows rows) state) ≡ bearers_defined tree (all_of_rows (rows ++ row ∷ [])) state
-defined-row tree rows row claim state is =
-    ap (λ one. with_claim one (bearers_defined tree (all_of_rows rows) state)) is ∙ defined-append tree rows row state
-
-pub between-row : (tree : Tree) (first last : Option Bound) (rows : List ℕ) (row : ℕ) (state : State)
-    → row_between tree first last row (stretches_defined tree first last (all_of_rows rows) state)
-    ≡ stretches_defined tree first last (all_of_rows (rows ++ row ∷ [])) state
-between-row tree first last [] row state = refl
-between-row tree first last (one ∷ rows) row state = between-row tree first last rows row (row_between tree first last one state)
+pub defined-row : (tree : Tree) (spans : Option (List Span)) (rows : List ℕ) (row : ℕ) (state : State)
+    → row_defined tree spans row (bearers_defined tree spans (all_of_rows rows) state) ≡ bearers_defined tree spans (all_of_rows (rows ++ row ∷ [])) state
+defined-row tree spans [] row state = refl
+defined-row tree spans (one ∷ rows) row state = defined-row tree spans rows row (row_defined tree spans one state)
 
 -- what is passed as values has no rows, and what is reached in part none of which all is reached
 pub passed-rows : (ranges : List Interval) → [] ≡ whole_rows (map Passed ranges)
@@ -93,34 +80,20 @@ reached-rows reach (row ∷ rows) whole =
     let rest = whole_rows (map (λ one. Reached one reach) rows) in
     ap (λ more. row ∷ more) (reached-rows reach rows whole) ∙ ap (λ b. cond b (row ∷ rest) rest) (sym whole)
 
--- where all of some rows is defined, all is that bearers are
-defined-cases : (tree : Tree) (row : ℕ) (bearers : List Bearer) (state : State) (whole : Bool)
-    → ((now : State) → bearers_defined tree (all_of_rows (whole_rows bearers)) now ≡ bearers_defined tree bearers now)
-    → bearers_defined tree (all_of_rows (cond whole (row ∷ whole_rows bearers) (whole_rows bearers))) state
-    ≡ bearers_defined tree bearers (cond whole (with_claim (all_of_row (index_at (rows_of tree) row) row) state) state)
-defined-cases tree row bearers state true rest = rest (with_claim (all_of_row (index_at (rows_of tree) row) row) state)
-defined-cases tree row bearers state false rest = rest state
+-- where rows are defined of which all bears something, all is that bearers are
+defined-cases : (tree : Tree) (spans : Option (List Span)) (row : ℕ) (bearers : List Bearer) (state : State) (whole : Bool)
+    → ((now : State) → bearers_defined tree spans (all_of_rows (whole_rows bearers)) now ≡ bearers_defined tree spans bearers now)
+    → bearers_defined tree spans (all_of_rows (cond whole (row ∷ whole_rows bearers) (whole_rows bearers))) state
+    ≡ bearers_defined tree spans bearers (cond whole (row_defined tree spans row state) state)
+defined-cases tree spans row bearers state true rest = rest (row_defined tree spans row state)
+defined-cases tree spans row bearers state false rest = rest state
 
-whole-defined : (tree : Tree) (bearers : List Bearer) (state : State)
-    → bearers_defined tree (all_of_rows (whole_rows bearers)) state ≡ bearers_defined tree bearers state
-whole-defined tree [] state = refl
-whole-defined tree (Passed range ∷ bearers) state = whole-defined tree bearers state
-whole-defined tree (Reached row reach ∷ bearers) state =
-    defined-cases tree row bearers state (is_entire reach) (λ now. whole-defined tree bearers now)
-
-between-cases : (tree : Tree) (first last : Option Bound) (row : ℕ) (bearers : List Bearer) (state : State) (whole : Bool)
-    → ((now : State) → stretches_defined tree first last (all_of_rows (whole_rows bearers)) now ≡ stretches_defined tree first last bearers now)
-    → stretches_defined tree first last (all_of_rows (cond whole (row ∷ whole_rows bearers) (whole_rows bearers))) state
-    ≡ stretches_defined tree first last bearers (cond whole (row_between tree first last row state) state)
-between-cases tree first last row bearers state true rest = rest (row_between tree first last row state)
-between-cases tree first last row bearers state false rest = rest state
-
-whole-between : (tree : Tree) (first last : Option Bound) (bearers : List Bearer) (state : State)
-    → stretches_defined tree first last (all_of_rows (whole_rows bearers)) state ≡ stretches_defined tree first last bearers state
-whole-between tree first last [] state = refl
-whole-between tree first last (Passed range ∷ bearers) state = whole-between tree first last bearers state
-whole-between tree first last (Reached row reach ∷ bearers) state =
-    between-cases tree first last row bearers state (is_entire reach) (λ now. whole-between tree first last bearers now)
+whole-defined : (tree : Tree) (spans : Option (List Span)) (bearers : List Bearer) (state : State)
+    → bearers_defined tree spans (all_of_rows (whole_rows bearers)) state ≡ bearers_defined tree spans bearers state
+whole-defined tree spans [] state = refl
+whole-defined tree spans (Passed range ∷ bearers) state = whole-defined tree spans bearers state
+whole-defined tree spans (Reached row reach ∷ bearers) state =
+    defined-cases tree spans row bearers state (is_entire reach) (λ now. whole-defined tree spans bearers now)
 
 -- what a path names that isn't the callee's own
 pub not-own : (tree : Tree) (block : ℕ) (bindings : List Binding) (path : Path)
@@ -128,38 +101,23 @@ pub not-own : (tree : Tree) (block : ℕ) (bindings : List Binding) (path : Path
     → whole_rows (bearers_named tree bindings path) ≡ rows_outside tree block bindings path
 not-own tree block bindings path other = sym (ap (λ own. cond own [] (whole_rows (bearers_named tree bindings path))) other)
 
--- a claim at the end is known, where all of the rows of what it names is defined
-pub outside-defined : (tree : Tree) (block : ℕ) (bindings : List Binding) (touches : Touches) (path : Path) (state : State)
-    → bearers_defined tree (all_of_rows (rows_outside tree block bindings path)) state ≡ with_exit tree block bindings touches (Defined path) state
-outside-defined tree block bindings touches path state =
+-- a claim at the end is known, where the rows of what it names are defined
+pub outside-defined : (tree : Tree) (block : ℕ) (bindings : List Binding) (touches : Touches) (path : Path) (spans : List fact.Span) (state : State)
+    → bearers_defined tree (exit_spans tree bindings touches spans) (all_of_rows (rows_outside tree block bindings path)) state
+    ≡ with_exit tree block bindings touches (Defined path spans) state
+outside-defined tree block bindings touches path spans state =
     by (is_own_path block path bindings (slice_get tree.variables.items path.root))
   where
     bearers : List Bearer
     bearers = bearers_named tree bindings path
 
-    by : (own : Bool) → bearers_defined tree (all_of_rows (cond own [] (whole_rows bearers))) state ≡ cond own state (bearers_defined tree bearers state)
+    found : Option (List Span)
+    found = exit_spans tree bindings touches spans
+
+    by : (own : Bool) → bearers_defined tree found (all_of_rows (cond own [] (whole_rows bearers))) state
+        ≡ cond own state (bearers_defined tree found bearers state)
     by true = refl
-    by false = whole-defined tree bearers state
-
-pub outside-between : (tree : Tree) (block : ℕ) (bindings : List Binding) (touches : Touches) (path : Path) (first last : fact.Bound) (state : State)
-    → stretches_defined tree (exit_bound tree bindings touches first) (exit_bound tree bindings touches last)
-    (all_of_rows (rows_outside tree block bindings path)) state ≡ with_exit tree block bindings touches (Stretch path first last) state
-outside-between tree block bindings touches path first last state =
-    by (is_own_path block path bindings (slice_get tree.variables.items path.root))
-  where
-    bearers : List Bearer
-    bearers = bearers_named tree bindings path
-
-    start : Option Bound
-    start = exit_bound tree bindings touches first
-
-    end : Option Bound
-    end = exit_bound tree bindings touches last
-
-    by : (own : Bool) → stretches_defined tree start end (all_of_rows (cond own [] (whole_rows bearers))) state
-        ≡ cond own state (stretches_defined tree start end bearers state)
-    by true = refl
-    by false = whole-between tree start end bearers state
+    by false = whole-defined tree found bearers state
 
 -- ---- bounds
 

@@ -131,15 +131,20 @@ are_ordered state (Some first) (Some last) =
     (first.has_value && last.has_value) && is_at_most state first last
 are_ordered state first last = false
 
+-- of each bearer all is known to be defined, or what lies in a span of the callee
+abbrev pub are_borne : Tree → List Binding → State → List fact.Span → List Bearer → Bool
+are_borne tree bindings state [] bearers = list_all (is_defined_borne tree state) bearers
+are_borne tree bindings state (span ∷ []) bearers =
+    are_borne_between tree state bearers (limit_of_bound tree state bindings span.first)
+    (limit_of_bound tree state bindings span.last)
+are_borne tree bindings state spans bearers = false
+
 -- a fact of the callee holds where it is called
 abbrev pub is_given : Tree → List Binding → State → fact.Fact → Bool
 is_given tree bindings state (fact.Range path range) =
     list_all (λ bearer. is_included (range_borne state bearer) range) (bearers_named tree bindings path)
-is_given tree bindings state (fact.Defined path) =
-    list_all (is_defined_borne tree state) (bearers_named tree bindings path)
-is_given tree bindings state (fact.Stretch path first last) =
-    are_borne_between tree state (bearers_named tree bindings path)
-    (limit_of_bound tree state bindings first) (limit_of_bound tree state bindings last)
+is_given tree bindings state (fact.Defined path spans) =
+    are_borne tree bindings state spans (bearers_named tree bindings path)
 is_given tree bindings state (fact.Order root other number) =
     are_ordered state (limit_of_plus tree state bindings root (pos 0))
     (limit_of_plus tree state bindings other number)

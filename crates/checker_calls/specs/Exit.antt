@@ -14,7 +14,7 @@ use Rattle.domain.specs.Facts.{Path}
 use Rattle.checker_rows.specs.Limits.{row_limits}
 use Rattle.checker_rows.specs.Rows.{index_at, is_variable_row, rows_of, rows_touched, rows_under, type_at}
 use Rattle.checker_state.specs.Bounds.{Bound, constant, moved_bound, plus}
-use Rattle.checker_state.specs.State.{Holds, State, Stretched, range_of, with_range}
+use Rattle.checker_state.specs.State.{Holds, Span, State, Stretched, range_of, with_range}
 use Rattle.checker_state.specs.Changes.{all_changed, bound_rests_on, ordered, with_some}
 use Rattle.checker_state.specs.Loops.{is_among, with_claim}
 use Rattle.checker_state.specs.Stores.{all_of_row, is_entire}
@@ -171,35 +171,36 @@ abbrev pub exit_bound : Tree → List Binding → Touches → fact.Bound → Opt
 exit_bound tree bindings touches (fact.Number n) = Some (constant n)
 exit_bound tree bindings touches (fact.Plus root n) = exit_plus tree bindings touches root n
 
--- what bears a leaf is defined: all of a row
-abbrev pub bearer_defined : Tree → Bearer → State → State
-bearer_defined tree (Passed range) state = state
-bearer_defined tree (Reached row reach) state =
-    if is_entire reach then with_claim (all_of_row (index_at (rows_of tree) row) row) state else state
+-- a span of the callee at its end, if both of its bounds are there
+abbrev pub span_between : Option Bound → Option Bound → Option (List Span)
+span_between (Some first) (Some last) = Some (record { first = first; last = last } ∷ [])
+span_between first last = None
 
-abbrev pub bearers_defined : Tree → List Bearer → State → State
-bearers_defined tree [] state = state
-bearers_defined tree (bearer ∷ bearers) state = bearers_defined tree bearers (bearer_defined tree bearer state)
+-- at most one span of the callee at its end
+abbrev pub exit_spans : Tree → List Binding → Touches → List fact.Span → Option (List Span)
+exit_spans tree bindings touches [] = Some []
+exit_spans tree bindings touches (span ∷ []) =
+    span_between (exit_bound tree bindings touches span.first) (exit_bound tree bindings touches span.last)
+exit_spans tree bindings touches spans = None
 
--- all of a row between two bounds is; a variable that is no structured one has no elements
-abbrev pub row_between : Tree → Option Bound → Option Bound → ℕ → State → State
-row_between tree (Some first) (Some last) row state =
+-- all of a row is defined, or what lies in spans; a variable that is no structured one has no elements
+abbrev pub row_defined : Tree → Option (List Span) → ℕ → State → State
+row_defined tree None row state = state
+row_defined tree (Some []) row state = with_claim (all_of_row (index_at (rows_of tree) row) row) state
+row_defined tree (Some (span ∷ spans)) row state =
     if is_variable_row tree row then state
-    else with_claim (Holds (Stretched (record {
-      row = row;
-      spans = record { first = first; last = last } ∷ [];
-    }))) state
-row_between tree first last row state = state
+    else with_claim (Holds (Stretched (record { row = row; spans = span ∷ spans }))) state
 
-abbrev pub stretch_defined : Tree → Option Bound → Option Bound → Bearer → State → State
-stretch_defined tree first last (Passed range) state = state
-stretch_defined tree first last (Reached row reach) state =
-    if is_entire reach then row_between tree first last row state else state
+-- so is what bears a leaf, where this is all of a row
+abbrev pub bearer_defined : Tree → Option (List Span) → Bearer → State → State
+bearer_defined tree spans (Passed range) state = state
+bearer_defined tree spans (Reached row reach) state =
+    if is_entire reach then row_defined tree spans row state else state
 
-abbrev pub stretches_defined : Tree → Option Bound → Option Bound → List Bearer → State → State
-stretches_defined tree first last [] state = state
-stretches_defined tree first last (bearer ∷ bearers) state =
-    stretches_defined tree first last bearers (stretch_defined tree first last bearer state)
+abbrev pub bearers_defined : Tree → Option (List Span) → List Bearer → State → State
+bearers_defined tree spans [] state = state
+bearers_defined tree spans (bearer ∷ bearers) state =
+    bearers_defined tree spans bearers (bearer_defined tree spans bearer state)
 
 -- one bound is at most another, where both have variables
 abbrev pub variables_ordered : Option ℕ → ℤ → Option ℕ → ℤ → State → State
@@ -224,13 +225,9 @@ is_own_path block path bindings (Some variable) =
 -- activation's
 abbrev pub with_exit : Tree → ℕ → List Binding → Touches → fact.Fact → State → State
 with_exit tree block bindings touches (fact.Range path range) state = state
-with_exit tree block bindings touches (fact.Defined path) state =
+with_exit tree block bindings touches (fact.Defined path spans) state =
     if is_own_path block path bindings (slice_get tree.variables.items path.root) then state
-    else bearers_defined tree (bearers_named tree bindings path) state
-with_exit tree block bindings touches (fact.Stretch path first last) state =
-    if is_own_path block path bindings (slice_get tree.variables.items path.root) then state
-    else stretches_defined tree (exit_bound tree bindings touches first) (exit_bound tree bindings touches last)
-    (bearers_named tree bindings path) state
+    else bearers_defined tree (exit_spans tree bindings touches spans) (bearers_named tree bindings path) state
 with_exit tree block bindings touches (fact.Order root other number) state =
     bounds_ordered (exit_plus tree bindings touches root (pos 0)) (exit_plus tree bindings touches other number) state
 

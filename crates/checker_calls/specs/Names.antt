@@ -16,6 +16,8 @@ use Rattle.types.specs.declared.form.TypeId.{TypeId}
 use Rattle.domain.specs.declared.facts.Bound.{Bound}
 use Rattle.domain.specs.declared.facts.Bound.TheVariants.{Number, Plus}
 use Rattle.domain.specs.declared.facts.Path.{Path}
+use Rattle.domain.specs.declared.facts.Spans.{Spans}
+use Rattle.domain.specs.declared.facts.Spans.TheVariants as kept_spans
 use Rattle.domain.specs.Facts.{said_path}
 use Rattle.checker_rows.specs.Rows.{Named, is_ordinal_variable, part_named}
 use Rattle.certificate.specs.Contents.{is_empty}
@@ -23,7 +25,7 @@ use Rattle.certificate.specs.declared.Certificate.{Certificate}
 use Rattle.certificate.specs.declared.LoopClaims.{LoopClaims}
 use Rattle.certificate.specs.declared.Section.{Section}
 use Rattle.certificate.specs.declared.facts.Fact.{Fact}
-use Rattle.certificate.specs.declared.facts.Fact.TheVariants.{Range, Defined, Stretch, Order}
+use Rattle.certificate.specs.declared.facts.Fact.TheVariants.{Range, Defined, Order}
 
 -- a path names a part that is there, of whose type a test holds
 abbrev pub is_named : (TypeId → Bool) → Option Named → Bool
@@ -45,13 +47,20 @@ abbrev pub bound_is_known : Tree → Bound → Bool
 bound_is_known tree (Number number) = true
 bound_is_known tree (Plus root number) = is_ordinal_variable tree root
 
--- a fact names parts of variables: a range those of an ordinal or a set type, a stretch elements; its bounds and the
+-- a part of a type has elements with an index for each span
+abbrev pub has_indexes : List Form → Spans → TypeId → Bool
+has_indexes types kept_spans.None id = true
+has_indexes types (kept_spans.One span) id = is_array types id
+
+abbrev pub spans_are_known : Tree → Spans → Bool
+spans_are_known tree kept_spans.None = true
+spans_are_known tree (kept_spans.One span) = bound_is_known tree span.first && bound_is_known tree span.last
+
+-- a fact names parts of variables: a range those of an ordinal or a set type, spans elements; its bounds and the
 -- variables of an order are of ordinal types
 abbrev pub fact_is_known : Tree → Fact → Bool
 fact_is_known tree (Range path range) = names tree (is_scalar tree.types) path
-fact_is_known tree (Defined path) = names tree (λ id. true) path
-fact_is_known tree (Stretch path first last) =
-    names tree (is_array tree.types) path && (bound_is_known tree first && bound_is_known tree last)
+fact_is_known tree (Defined path spans) = names tree (has_indexes tree.types spans) path && spans_are_known tree spans
 fact_is_known tree (Order root other number) = is_ordinal_variable tree root && is_ordinal_variable tree other
 
 -- ---- the variables that a fact names
@@ -60,10 +69,13 @@ abbrev pub bound_roots : Bound → List ℕ
 bound_roots (Number number) = []
 bound_roots (Plus root number) = root ∷ []
 
+abbrev pub spans_roots : Spans → List ℕ
+spans_roots kept_spans.None = []
+spans_roots (kept_spans.One span) = bound_roots span.first ++ bound_roots span.last
+
 abbrev pub fact_roots : Fact → List ℕ
 fact_roots (Range path range) = path.root ∷ []
-fact_roots (Defined path) = path.root ∷ []
-fact_roots (Stretch path first last) = path.root ∷ (bound_roots first ++ bound_roots last)
+fact_roots (Defined path spans) = path.root ∷ spans_roots spans
 fact_roots (Order root other number) = root ∷ other ∷ []
 
 -- a fact names parts that are there, of variables of which a test holds
@@ -126,7 +138,7 @@ is_lasting tree section root =
 -- the block's own result, whole
 abbrev pub is_own_result : Tree → ℕ → Fact → Bool
 is_own_result tree block (Range path range) = is_declared (outline_of tree) block is_result_kind path.root
-is_own_result tree block (Defined path) = is_declared (outline_of tree) block is_result_kind path.root
+is_own_result tree block (Defined path kept_spans.None) = is_declared (outline_of tree) block is_result_kind path.root
 is_own_result tree block fact = false
 
 abbrev pub exit_is_known : Tree → Section → Fact → Bool

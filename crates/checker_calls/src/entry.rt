@@ -6,11 +6,12 @@ ghost use Rattle.checker_state.specs.State.{range_of, table_of};
 ghost use Rattle.checker_state.specs.Stores.{gives_reached};
 ghost use Rattle.checker_state.specs.View.{said_held, said_reach};
 ghost use Rattle.checker_trail.specs.Trail.{seen};
+ghost use Rattle.domain.specs.Facts.{said_spans};
 ghost use Rattle.domain.specs.Interval.{is_included};
 ghost use Rattle.checker_calls.specs.Actuals.{Reached};
-ghost use Rattle.checker_calls.specs.Entry.{are_borne_between, are_given, are_ordered, covers_between, held_in};
-ghost use Rattle.checker_calls.specs.Entry.{is_at_most, is_borne_between, is_defined_borne, is_given, limit_moved};
-ghost use Rattle.checker_calls.specs.Entry.{range_borne};
+ghost use Rattle.checker_calls.specs.Entry.{are_borne, are_borne_between, are_given, are_ordered, covers_between};
+ghost use Rattle.checker_calls.specs.Entry.{held_in, is_at_most, is_borne_between, is_defined_borne, is_given};
+ghost use Rattle.checker_calls.specs.Entry.{limit_moved, range_borne};
 ghost use Rattle.checker_calls.specs.View.{said_bearers, said_bindings, said_limit, said_some_limit};
 
 use crate::actuals::{Bearers, Bindings, bearers_named, is_variable_row};
@@ -20,6 +21,7 @@ use checker_rows::Span;
 use checker_state::{Held, Indexes, Reach};
 use checker_trail::State;
 use domain::Domain;
+use domain::facts::Spans;
 use domain::interval::Interval;
 
 /// Whether each fact that is claimed of the start of a block holds where it is called; at a dead point each does
@@ -49,12 +51,11 @@ fn is_given(bindings: Bindings, state: &State, fact: &Fact) -> bool
         Fact::Range { path, range } => {
             are_within(state, &bearers_named(table, bindings, path), *range)
         }
-        Fact::Defined { path } => are_defined(state, &bearers_named(table, bindings, path)),
-        Fact::Stretch { path, first, last } => are_between(
+        Fact::Defined { path, spans } => are_borne(
+            bindings,
             state,
+            *spans,
             &bearers_named(table, bindings, path),
-            limit_of(state, bindings, *first),
-            limit_of(state, bindings, *last),
         ),
         Fact::Order {
             root,
@@ -96,6 +97,22 @@ fn rows_within(state: &State, rows: Span, range: Interval) -> bool
         }
     }
     true
+}
+
+// Whether of each bearer all is known to be defined, or what lies in a span of the callee.
+fn are_borne(bindings: Bindings, state: &State, spans: Spans, bearers: &Bearers) -> bool
+    ensures { result ≡ are_borne state.now.table.now (said_bindings bindings.entry) (seen state.now) (said_spans spans)
+        (said_bearers bearers.now) }
+{
+    match spans {
+        Spans::None => are_defined(state, bearers),
+        Spans::One(span) => are_between(
+            state,
+            bearers,
+            limit_of(state, bindings, span.first),
+            limit_of(state, bindings, span.last),
+        ),
+    }
 }
 
 // Whether each bearer is known to be defined.

@@ -1,18 +1,17 @@
-ghost use Rattle.std.specs.Prelude.{◌≡◌, ℕ, IfOk, Some, map, not, slice_get};
+ghost use Rattle.std.specs.Prelude.{◌≡◌, ℕ, IfOk, Some, map, not, option_map, slice_get};
 ghost use Rattle.certificate.specs.Contents.{said_fact};
 ghost use Rattle.checker_rows.specs.Rows.{rows_touched};
 ghost use Rattle.checker_rows.specs.View.{numbers};
 ghost use Rattle.checker_state.specs.Changes.{all_changed};
 ghost use Rattle.checker_state.specs.Knows.{rests_on_any};
-ghost use Rattle.checker_state.specs.View.{said_form, said_held};
+ghost use Rattle.checker_state.specs.View.{inner_spans, said_form, said_held};
 ghost use Rattle.checker_trail.specs.Trail.{Moves};
-ghost use Rattle.domain.specs.Facts.{said_bound as said_claimed, said_path};
+ghost use Rattle.domain.specs.Facts.{said_bound as said_claimed, said_path, said_spans};
 ghost use Rattle.checker_loops.specs.BlockView.{said_claims};
 ghost use Rattle.checker_calls.specs.Actuals.{all_of_rows};
 ghost use Rattle.checker_calls.specs.Exit.{bearers_defined, behind_call, bounds_ordered, exit_bound, exit_bound_of};
-ghost use Rattle.checker_calls.specs.Exit.{exit_plus, is_own_path, result_range, row_behind, row_between, rows_behind};
-ghost use Rattle.checker_calls.specs.Exit.{stretches_defined, touched_behind, untouched_form, with_exit};
-ghost use Rattle.checker_calls.specs.Exit.{with_exits};
+ghost use Rattle.checker_calls.specs.Exit.{exit_plus, exit_spans, is_own_path, result_range, row_behind, row_defined};
+ghost use Rattle.checker_calls.specs.Exit.{rows_behind, touched_behind, untouched_form, with_exit, with_exits};
 ghost use Rattle.checker_calls.specs.View.{said_actual, said_bindings};
 ghost use Rattle.checker_calls.specs.ExitView.{left_behind, rows_outside, steady_at, touched_by, touches_by};
 
@@ -25,9 +24,9 @@ use certificate::Fact;
 use checker_loops::pairs::Pairs;
 use checker_loops::sections::BlockClaims;
 use checker_rows::{Rows, Span};
-use checker_state::{Bound, Held, Order, Stretch};
+use checker_state::{Bound, Held, Order, Span as Within, Stretch};
 use checker_trail::{State, all_of_row};
-use domain::facts::{self, Path};
+use domain::facts::{self, Path, Spans};
 use domain::interval::Interval;
 use std::alloc::{AllocError, Global};
 use typed_tree::tree::Tree;
@@ -205,19 +204,10 @@ fn add_exit(
 {
     match fact {
         Fact::Range { .. } => {}
-        Fact::Defined { path } => {
-            define_rows(state, rows, rows_outside(rows, block, bindings, path));
-        }
-        Fact::Stretch { path, first, last } => {
-            let first = exit_bound(rows, bindings, touches, *first);
-            let last = exit_bound(rows, bindings, touches, *last);
-            define_stretches(
-                state,
-                rows,
-                first,
-                last,
-                rows_outside(rows, block, bindings, path),
-            );
+        Fact::Defined { path, spans } => {
+            let outside = rows_outside(rows, block, bindings, path);
+            let within = exit_spans(rows, bindings, touches, *spans);
+            define_rows(state, rows, within, outside);
         }
         Fact::Order {
             root,
@@ -261,45 +251,28 @@ fn is_own_path(tree: &Tree, block: u32, bindings: Bindings, path: &Path) -> bool
     }
 }
 
-// All of each of some rows is defined.
-fn define_rows(state: &mut State, rows: &Rows, span: Span)
-    ensures { Moves (bearers_defined rows.now (all_of_rows (numbers span))) state.old state.new }
-{
-    for row in span.first..span.end() {
-        state.claim(&all_of_row(rows.index(row), row));
-    }
-}
-
-// It is between two bounds.
-fn define_stretches(
-    state: &mut State,
-    rows: &Rows,
-    first: Option<Bound>,
-    last: Option<Bound>,
-    span: Span,
-)
-    ensures { Moves (stretches_defined rows.now (said_form first) (said_form last) (all_of_rows (numbers span)))
+// All of each of some rows is defined, or what lies in a span; nothing, where that isn't known.
+fn define_rows(state: &mut State, rows: &Rows, within: Option<Option<Within>>, span: Span)
+    ensures { Moves (bearers_defined rows.now (option_map inner_spans within) (all_of_rows (numbers span)))
         state.old state.new }
 {
     for row in span.first..span.end() {
-        define_stretch(state, rows, first, last, row);
+        define_row(state, rows, within, row);
     }
 }
 
-fn define_stretch(
-    state: &mut State,
-    rows: &Rows,
-    first: Option<Bound>,
-    last: Option<Bound>,
-    row: usize,
-)
-    ensures { Moves (row_between rows.now (said_form first) (said_form last) row) state.old state.new }
+fn define_row(state: &mut State, rows: &Rows, within: Option<Option<Within>>, row: usize)
+    ensures { Moves (row_defined rows.now (option_map inner_spans within) row) state.old state.new }
 {
-    if is_variable_row(rows, row) {
-        return;
-    }
-    if let Some(stretch) = Stretch::between(row, first, last) {
-        state.hold(Held::Stretched(stretch));
+    match within {
+        None => {}
+        Some(None) => state.claim(&all_of_row(rows.index(row), row)),
+        Some(Some(span)) => {
+            if !is_variable_row(rows, row) {
+                let inner = None;
+                state.hold(Held::Stretched(Stretch { row, span, inner }));
+            }
+        }
     }
 }
 
@@ -316,6 +289,26 @@ fn order(state: &mut State, first: Option<Bound>, last: Option<Bound>)
 }
 
 // ---- bounds at the end
+
+// The span of the callee at its end, if it has one: nothing, where a bound of it isn't known.
+fn exit_spans(
+    rows: &Rows,
+    bindings: Bindings,
+    touches: &Touches,
+    spans: Spans,
+) -> Option<Option<Within>>
+    ensures { option_map inner_spans result
+        ≡ exit_spans rows.now (said_bindings bindings.entry) touches.now (said_spans spans) }
+{
+    match spans {
+        Spans::None => Some(None),
+        Spans::One(span) => {
+            let first = exit_bound(rows, bindings, touches, span.first)?;
+            let last = exit_bound(rows, bindings, touches, span.last)?;
+            Some(Some(Within { first, last }))
+        }
+    }
+}
 
 // A bound of the callee at its end, where it is called: it says nothing where that isn't known.
 fn exit_bound(

@@ -91,7 +91,6 @@ fn know(known: &mut Ranges, rows: &Rows, fact: &Fact) -> Result<(), AllocError>
     match fact {
         Fact::Range { path, range } => know_rows(known, rows, rows_named(rows, path), range),
         Fact::Defined { .. } => Ok(()),
-        Fact::Stretch { .. } => Ok(()),
         Fact::Order { .. } => Ok(()),
     }
 }
@@ -138,7 +137,6 @@ fn claimed_of_row(rows: &Rows, row: usize, fact: &Fact, known: Interval) -> Inte
             }
         }
         Fact::Defined { .. } => known,
-        Fact::Stretch { .. } => known,
         Fact::Order { .. } => known,
     }
 }

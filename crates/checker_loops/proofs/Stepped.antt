@@ -8,7 +8,7 @@ use Rattle.std.proofs.lemmas.List.Folds.{list_all-append, list_all-map, list_all
 use Rattle.std.proofs.lemmas.List.FromFn.{get_or-range_with_len, length-range_with_len}
 use Rattle.certificate.specs.declared.facts.Fact.{Fact as KeptFact}
 use Rattle.certificate.specs.Contents.{said_fact}
-use Rattle.domain.specs.Facts.{Fact, Range, Defined, Stretch, Order}
+use Rattle.domain.specs.Facts.{Fact, Range, Defined, Order}
 use Rattle.domain.specs.Interval.{Interval}
 use Rattle.typed_tree.specs.declared.tree.Tree.{Tree}
 use Rattle.checker_rows.specs.Rows.{rows_touched, rows_under}
@@ -108,8 +108,7 @@ rows-root limits tree roots root rows state is =
 -- a fact says what it says of each row
 pub said-by-rows : (tree : Tree) (fact : Fact) → map (claim_at tree fact) (rows_said tree fact) ≡ said tree fact
 said-by-rows tree (Range path range) = refl
-said-by-rows tree (Defined path) = refl
-said-by-rows tree (Stretch path first last) = refl
+said-by-rows tree (Defined path spans) = refl
 said-by-rows tree (Order root other number) = refl
 
 pub claims-row : (tree : Tree) (fact : Fact) (rows : List ℕ) (row : ℕ) (claim : Claim) (state : State) → claim ≡ claim_at tree fact row

@@ -12,7 +12,7 @@ use Rattle.domain.specs.Facts.{Path}
 use Rattle.checker_rows.specs.Limits.{row_limits}
 use Rattle.checker_rows.specs.Rows.{Named, index_at, part_named, rows_of, rows_touched, rows_under}
 use Rattle.checker_state.specs.Bounds.{Bound, constant, plus}
-use Rattle.checker_state.specs.State.{Claim, Holds, Ordered, Range, State, Stretched, table_of}
+use Rattle.checker_state.specs.State.{Claim, Holds, Ordered, Range, Span, State, Stretched, table_of}
 use Rattle.checker_state.specs.Loops.{gives_all, head, is_among}
 use Rattle.checker_state.specs.Stores.{all_of_row}
 use Rattle.checker_loops.specs.Pairs.{Listed, all_aliases_in}
@@ -41,18 +41,19 @@ rows_in tree root (Some named) = rows_under tree root named.steps
 abbrev pub rows_named : Tree → Path → List ℕ
 rows_named tree path = rows_in tree path.root (part_named tree path)
 
--- a stretch of first indexes of a row
-abbrev pub stretch_of : fact.Bound → fact.Bound → ℕ → Claim
-stretch_of first last row = Holds (Stretched (record {
-  row = row;
-  spans = record { first = said_bound first; last = said_bound last } ∷ [];
-}))
+abbrev pub said_span : fact.Span → Span
+said_span span = record { first = said_bound span.first; last = said_bound span.last }
+
+-- what is defined of a row: all of it, or what lies in spans
+abbrev pub defined_of : Tree → List fact.Span → ℕ → Claim
+defined_of tree [] row = all_of_row (index_at (rows_of tree) row) row
+defined_of tree (span ∷ spans) row =
+    Holds (Stretched (record { row = row; spans = said_span span ∷ map said_span spans }))
 
 -- what a claim says of rows, and of variables
 abbrev pub said : Tree → fact.Fact → List Claim
 said tree (fact.Range path range) = map (λ row. Range row range) (rows_named tree path)
-said tree (fact.Defined path) = map (λ row. all_of_row (index_at (rows_of tree) row) row) (rows_named tree path)
-said tree (fact.Stretch path first last) = map (stretch_of first last) (rows_named tree path)
+said tree (fact.Defined path spans) = map (defined_of tree spans) (rows_named tree path)
 said tree (fact.Order root other number) = Holds (Ordered root other number) ∷ []
 
 abbrev pub all_said : Tree → List fact.Fact → List Claim

@@ -10,15 +10,13 @@ use denote.Ref.{Bor}
 use Rattle.certificate.specs.declared.AliasPair.{AliasPair}
 use Rattle.certificate.specs.declared.LoopClaims.{LoopClaims as LoopLines}
 use Rattle.certificate.specs.Contents.{LoopClaims, loop_of, said_fact}
-use Rattle.domain.specs.Facts.{Fact, Range, Defined, Stretch, Order}
-use Rattle.checker_rows.specs.Rows.{index_at, rows_of}
+use Rattle.domain.specs.Facts.{Fact, Range, Defined, Order}
 use Rattle.checker_state.specs.State as state
 use Rattle.checker_state.specs.State.{Claim, Holds, Ordered}
-use Rattle.checker_state.specs.Stores.{all_of_row}
 use Rattle.typed_tree.specs.declared.tree.Tree.{Tree}
 use Rattle.checker_loops.specs.declared.loops.Claims.{Claims as KeptClaims}
 use Rattle.checker_loops.specs.declared.rounds.Round.{Round as KeptRound}
-use Rattle.checker_loops.specs.Loops.{Claims, Round, claims_of, or_else, round_of, rows_named, stretch_of}
+use Rattle.checker_loops.specs.Loops.{Claims, Round, claims_of, defined_of, or_else, round_of, rows_named}
 use Rattle.checker_loops.specs.Loops.{with_own}
 use Rattle.checker_loops.specs.Pairs.{Listed, aliases_of, declared_aliases, declares, partner}
 
@@ -31,15 +29,13 @@ said_claims claims = record { changes = claims.changes; facts = map said_fact cl
 -- the rows of which a fact says something; an order, which speaks of none, is said once
 abbrev pub rows_said : Tree → Fact → List ℕ
 rows_said tree (Range path range) = rows_named tree path
-rows_said tree (Defined path) = rows_named tree path
-rows_said tree (Stretch path first last) = rows_named tree path
+rows_said tree (Defined path spans) = rows_named tree path
 rows_said tree (Order root other number) = 0 ∷ []
 
 -- what it says there
 abbrev pub claim_at : Tree → Fact → ℕ → Claim
 claim_at tree (Range path range) row = state.Range row range
-claim_at tree (Defined path) row = all_of_row (index_at (rows_of tree) row) row
-claim_at tree (Stretch path first last) row = stretch_of first last row
+claim_at tree (Defined path spans) row = defined_of tree spans row
 claim_at tree (Order root other number) row = Holds (Ordered root other number)
 
 -- claims that the checker has found, as the definitions see them

@@ -7,14 +7,15 @@ ghost use Rattle.checker_state.specs.Loops.{gives_all, with_claims};
 ghost use Rattle.checker_state.specs.State.{table_of};
 ghost use Rattle.checker_state.specs.View as kept;
 ghost use Rattle.checker_trail.specs.Trail.{Moves, seen};
-ghost use Rattle.checker_loops.specs.Loops.{all_said, gives_claims, rows_named, said, said_bound, stretch_of};
+ghost use Rattle.checker_loops.specs.Loops.{all_said, defined_of, gives_claims, rows_named, said, said_bound};
+ghost use Rattle.checker_loops.specs.Loops.{said_span};
 ghost use Rattle.checker_loops.specs.View.{claim_at, rows_said};
 
 use certificate::Fact;
 use checker_rows::{Rows, Span};
 use checker_state::{Bound, Claim, Held, Order, Stretch};
 use checker_trail::{State, all_of_row};
-use domain::facts::{self, Path};
+use domain::facts::{self, Path, Spans};
 
 /// What a certificate claims is known from here on.
 pub fn claim_facts(state: &mut State, facts: &[Fact])
@@ -69,8 +70,7 @@ fn rows_said(rows: &Rows, fact: &Fact) -> Span
 {
     match fact {
         Fact::Range { path, .. } => rows_named(rows, path),
-        Fact::Defined { path } => rows_named(rows, path),
-        Fact::Stretch { path, .. } => rows_named(rows, path),
+        Fact::Defined { path, .. } => rows_named(rows, path),
         Fact::Order { .. } => Span { first: 0, count: 1 },
     }
 }
@@ -81,8 +81,7 @@ fn claim_at(rows: &Rows, fact: &Fact, row: usize) -> Claim
 {
     match fact {
         Fact::Range { range, .. } => Claim::Range { row, range: *range },
-        Fact::Defined { .. } => all_of_row(rows.index(row), row),
-        Fact::Stretch { first, last, .. } => stretch_of(*first, *last, row),
+        Fact::Defined { spans, .. } => defined_of(rows, *spans, row),
         Fact::Order {
             root,
             other,
@@ -95,18 +94,28 @@ fn claim_at(rows: &Rows, fact: &Fact, row: usize) -> Claim
     }
 }
 
-/// A stretch of first indexes of a row is defined.
-fn stretch_of(first: facts::Bound, last: facts::Bound, row: usize) -> Claim
-    ensures { kept.said_claim result ≡ stretch_of (fact.said_bound first) (fact.said_bound last) row }
+/// All of a row is defined, or what lies in spans.
+fn defined_of(rows: &Rows, spans: Spans, row: usize) -> Claim
+    ensures { kept.said_claim result ≡ defined_of rows.now (fact.said_spans spans) row }
 {
-    Claim::Holds(Held::Stretched(Stretch {
-        row,
-        span: checker_state::Span {
-            first: kept_bound(first),
-            last: kept_bound(last),
-        },
-        inner: None,
-    }))
+    match spans {
+        Spans::None => all_of_row(rows.index(row), row),
+        Spans::One(span) => Claim::Holds(Held::Stretched(Stretch {
+            row,
+            span: kept_span(span),
+            inner: None,
+        })),
+    }
+}
+
+/// A span of a certificate as states have it.
+fn kept_span(span: facts::Span) -> checker_state::Span
+    ensures { kept.said_span result ≡ said_span (fact.said_span span) }
+{
+    checker_state::Span {
+        first: kept_bound(span.first),
+        last: kept_bound(span.last),
+    }
 }
 
 /// A bound of a certificate as states have it.

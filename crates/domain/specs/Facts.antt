@@ -1,7 +1,7 @@
 -- Paths, bounds and facts: what may be said of the variables at a point of a program (ISO 7185:1990, 6.5.1: a variable
 -- is undefined or has a value), and the order in which facts are listed, each once. It does not say what a fact means
 -- of a run.
-use Rattle.std.specs.Prelude.{ℕ, ℤ, List, map}
+use Rattle.std.specs.Prelude.{ℕ, ℤ, List, [], ◌∷◌, length, map}
 use Rattle.std.specs.Cmp.Lexicographic.{slice_cmp}
 use Rattle.std.specs.declared.cmp.Ordering.{Ordering}
 use Rattle.std.specs.declared.cmp.Ordering.TheVariants.{Less, Equal, Greater}
@@ -10,6 +10,9 @@ use Rattle.domain.specs.Interval.{Interval}
 use Rattle.domain.specs.declared.facts.Bound.{Bound as KeptBound}
 use Rattle.domain.specs.declared.facts.Bound.TheVariants as kept
 use Rattle.domain.specs.declared.facts.Path.{Path as KeptPath}
+use Rattle.domain.specs.declared.facts.Span.{Span as KeptSpan}
+use Rattle.domain.specs.declared.facts.Spans.{Spans}
+use Rattle.domain.specs.declared.facts.Spans.TheVariants as kept_spans
 use Rattle.domain.specs.declared.facts.Step.{Step as KeptStep}
 use Rattle.domain.specs.declared.facts.Step.TheVariants as kept_step
 
@@ -28,12 +31,17 @@ pub data Bound : Type 0 where
   Number : ℤ → Bound
   Plus : (root : ℕ) → ℤ → Bound
 
--- what may be said of variables: each defined value at a path lies in a range; what lies at a path is defined; each
--- element of an array from a first to a last index is; the value of a variable is at most that of another plus a number
+-- the numbers between two bounds
+pub record Span : Type 0 where
+  pub first : Bound
+  pub last : Bound
+
+-- what may be said of variables: each defined value at a path lies in a range; what lies at a path is defined, or each
+-- element of it whose indexes lie in spans, the first index in the first, and so on; the value of a variable is at most
+-- that of another plus a number
 pub data Fact : Type 0 where
   Range : Path → Interval → Fact
-  Defined : Path → Fact
-  Stretch : Path → (first last : Bound) → Fact
+  Defined : Path → List Span → Fact
   Order : (root other : ℕ) → ℤ → Fact
 
 -- ---- the order of facts
@@ -56,20 +64,22 @@ bound_order (Number m) (Plus root n) = Less
 bound_order (Plus root m) (Number n) = Greater
 bound_order (Plus a m) (Plus b n) = ordering_then (nat_cmp a b) (int_cmp m n)
 
+-- by first bounds and then by last ones
+abbrev pub span_order : Span → Span → Ordering
+span_order a b = ordering_then (bound_order a.first b.first) (bound_order a.last b.last)
+
 -- the place of a fact's form among the forms
 abbrev pub rank : Fact → ℕ
 rank (Range path range) = 0
-rank (Defined path) = 1
-rank (Stretch path first last) = 2
-rank (Order root other number) = 3
+rank (Defined path spans) = 1
+rank (Order root other number) = 2
 
--- by forms, then by paths or variables, then by the bounds of a stretch: facts that it calls equal are one but for the
--- numbers of a range or an order
+-- by forms, where fewer spans come first, then by paths or variables, then by spans: facts that it calls equal are one
+-- but for the numbers of a range or an order
 abbrev pub subject_order : Fact → Fact → Ordering
 subject_order (Range p a) (Range q b) = path_order p q
-subject_order (Defined p) (Defined q) = path_order p q
-subject_order (Stretch p a b) (Stretch q c d) =
-    ordering_then (path_order p q) (ordering_then (bound_order a c) (bound_order b d))
+subject_order (Defined p a) (Defined q b) =
+    ordering_then (nat_cmp (length a) (length b)) (ordering_then (path_order p q) (slice_cmp span_order a b))
 subject_order (Order a b m) (Order c d n) = ordering_then (nat_cmp a c) (nat_cmp b d)
 subject_order f g = nat_cmp (rank f) (rank g)
 
@@ -87,3 +97,11 @@ said_path path = record { root = path.root; steps = map said_step path.steps.ite
 abbrev pub said_bound : KeptBound → Bound
 said_bound (kept.Number number) = Number number
 said_bound (kept.Plus root number) = Plus root number
+
+-- what spans say
+abbrev pub said_span : KeptSpan → Span
+said_span span = record { first = said_bound span.first; last = said_bound span.last }
+
+abbrev pub said_spans : Spans → List Span
+said_spans kept_spans.None = []
+said_spans (kept_spans.One span) = said_span span ∷ []

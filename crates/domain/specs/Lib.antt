@@ -5,3 +5,4 @@ pub mod Interval
 pub mod Numbers
 pub mod Order
 pub mod Ranges
+pub mod Versions

@@ -1,6 +1,8 @@
-ghost use Rattle.std.specs.Prelude.{◌≡◌, map};
+ghost use Rattle.std.specs.Prelude.{◌≡◌, length, map};
 ghost use Rattle.std.specs.Cmp.Lexicographic.{slice_cmp};
-ghost use Rattle.domain.specs.Facts.{bound_order, path_order, said_bound, said_path, said_step, step_order};
+ghost use Rattle.std.specs.Ordering.{nat_cmp, ordering_then};
+ghost use Rattle.domain.specs.Facts.{bound_order, path_order, said_bound, said_path, said_spans, said_step};
+ghost use Rattle.domain.specs.Facts.{span_order, step_order};
 
 use std::cmp::Ordering;
 
@@ -26,6 +28,21 @@ pub struct Path {
 pub enum Bound {
     Number(i32),
     Plus { root: u32, number: i32 },
+}
+
+/// The numbers between two bounds.
+#[derive(Clone, Copy)]
+pub struct Span {
+    pub first: Bound,
+    pub last: Bound,
+}
+
+/// The spans in which the indexes of elements lie, the first index in the first.
+#[derive(Clone, Copy)]
+pub enum Spans {
+    /// What lies at a path is meant as a whole.
+    None,
+    One(Span),
 }
 
 impl Step {
@@ -64,6 +81,25 @@ impl Bound {
             (Bound::Plus { .. }, Bound::Number(_)) => Ordering::Greater,
             (Bound::Plus { root: v, number: a }, Bound::Plus { root: w, number: b }) => {
                 v.cmp(w).then(a.cmp(b))
+            }
+        }
+    }
+}
+
+impl Spans {
+    /// How what is defined in the spans stands to what is in others: fewer spans come first, then paths decide, how
+    /// these stand, and then the first bounds that differ.
+    pub fn compare(self, other: Spans, paths: Ordering) -> Ordering
+        ensures { result ≡ ordering_then (nat_cmp (length (said_spans self)) (length (said_spans other)))
+            (ordering_then paths (slice_cmp span_order (said_spans self) (said_spans other))) }
+    {
+        match (self, other) {
+            (Spans::None, Spans::None) => paths,
+            (Spans::None, Spans::One(_)) => Ordering::Less,
+            (Spans::One(_), Spans::None) => Ordering::Greater,
+            (Spans::One(one), Spans::One(another)) => {
+                let last = one.last.compare(&another.last);
+                paths.then(one.first.compare(&another.first).then(last))
             }
         }
     }

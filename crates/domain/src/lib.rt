@@ -1,4 +1,4 @@
-//! The domains of the checker's abstract values, and the facts that it may know.
+//! The domains of the checker's abstract values, the facts that it may know, and the versions of certificates.
 //!
 //! `Domain` has the four operations that the checker's soundness stands on, with their laws; `Interval` is a
 //! domain, with the arithmetic of ranges, and `Hull` is one, with the operators of sets.
@@ -9,6 +9,7 @@ ghost use Rattle.std.specs.Prelude.{◌≡◌, Bool, true, false};
 pub mod facts;
 pub mod hull;
 pub mod interval;
+pub mod versions;
 
 /// A set of abstract values, each of which stands for the concrete values that are its members.
 ///

@@ -10,6 +10,7 @@ use Rattle.std.specs.declared.cmp.Ordering.TheVariants.{Equal, Greater, Less}
 use Rattle.std.proofs.lemmas.Bool.{and_from, and_parts, false≢true}
 use Rattle.std.proofs.lemmas.Bool.Decides.{nat_tests}
 use Rattle.std.proofs.lemmas.Cmp.{nat_cmp_total, tied_itself}
+use Rattle.domain.specs.declared.versions.Version.{Version}
 use Rattle.certificate.specs.declared.AliasPair.{AliasPair}
 use Rattle.certificate.specs.Contents.{LoopClaims, Section, are_claims, are_in_order, are_listed, claim_order, claims_of_block, comes_behind, is_empty}
 use Rattle.certificate.specs.Contents.{is_loop, is_right, is_section, is_small, pair_order}
@@ -69,36 +70,38 @@ pairs-listed right seconds last (first ∷ more) listed =
 -- ---- claims
 
 -- the changes of a block or a loop
-changes-listed : (in_loop : Bool) (roots : List ℕ) → ascends is_small None roots ≡ true
-    → are_claims in_loop (map Change roots) ≡ true
-changes-listed in_loop roots listed =
-    made claim_order (λ claim. claim) (is_right in_loop) Change None roots
-    ∙ right-too is_small (λ root. is_right in_loop (Change root)) (λ root small. and_from (is_small root) true small refl) None roots listed
+changes-listed : (version : Version) (in_loop : Bool) (roots : List ℕ) → ascends is_small None roots ≡ true
+    → are_claims version in_loop (map Change roots) ≡ true
+changes-listed version in_loop roots listed =
+    made claim_order (λ claim. claim) (is_right version in_loop) Change None roots
+    ∙ right-too is_small (λ root. is_right version in_loop (Change root)) (λ root small. and_from (is_small root) true small refl) None roots listed
 
 -- pairs and then changes
-claims-listed : (pairs : List AliasPair) (roots : List ℕ) → are_listed pair_order (λ one. one) (λ one. is_right false (Alias one)) None pairs ≡ true
-    → ascends is_small None roots ≡ true → are_claims false (map Alias pairs ++ (map Change roots ++ [])) ≡ true
-claims-listed pairs roots listed ascend =
-    let changes = changes-listed false roots ascend in
-    ap (λ (more : List Claim). are_claims false (map Alias pairs ++ more)) (append-nil (map Change roots))
-    ∙ joined claim_order (λ claim. claim) (is_right false) Alias (map Change roots)
-    (λ one. begun claim_order (λ claim. claim) (is_right false) Change (Some (Alias one)) (λ root. refl) roots changes) None changes pairs
-    (made claim_order (λ claim. claim) (is_right false) Alias None pairs ∙ listed)
+claims-listed : (version : Version) (pairs : List AliasPair) (roots : List ℕ)
+    → are_listed pair_order (λ one. one) (λ one. is_right version false (Alias one)) None pairs ≡ true
+    → ascends is_small None roots ≡ true → are_claims version false (map Alias pairs ++ (map Change roots ++ [])) ≡ true
+claims-listed version pairs roots listed ascend =
+    let changes = changes-listed version false roots ascend in
+    ap (λ (more : List Claim). are_claims version false (map Alias pairs ++ more)) (append-nil (map Change roots))
+    ∙ joined claim_order (λ claim. claim) (is_right version false) Alias (map Change roots)
+    (λ one. begun claim_order (λ claim. claim) (is_right version false) Change (Some (Alias one)) (λ root. refl) roots changes) None changes pairs
+    (made claim_order (λ claim. claim) (is_right version false) Alias None pairs ∙ listed)
 
 -- ---- loops
 
-loop-listed : (root : ℕ) (roots : List ℕ) (number : ℕ) → ascends is_small None (root ∷ roots) ≡ true → is_small number ≡ true
-    → is_loop (loop_with (root ∷ roots) number) ≡ true
-loop-listed root roots number ascend small =
+loop-listed : (version : Version) (root : ℕ) (roots : List ℕ) (number : ℕ) → ascends is_small None (root ∷ roots) ≡ true → is_small number ≡ true
+    → is_loop version (loop_with (root ∷ roots) number) ≡ true
+loop-listed version root roots number ascend small =
     and_from (is_small number) _ small
-    (ap (are_claims true) (append-nil (map Change (root ∷ roots))) ∙ changes-listed true (root ∷ roots) ascend)
+    (ap (are_claims version true) (append-nil (map Change (root ∷ roots))) ∙ changes-listed version true (root ∷ roots) ascend)
 
-loops-listed : (roots numbers : List ℕ) → ascends is_small None roots ≡ true → ascends is_small None numbers ≡ true
-    → are_listed nat_cmp (λ claims. claims.number) is_loop None (loops_with roots numbers) ≡ true
-loops-listed [] numbers ascend listed = refl
-loops-listed (root ∷ roots) numbers ascend listed =
-    made nat_cmp (λ claims. claims.number) is_loop (loop_with (root ∷ roots)) None numbers
-    ∙ right-too is_small (λ number. is_loop (loop_with (root ∷ roots) number)) (λ number small. loop-listed root roots number ascend small) None numbers listed
+loops-listed : (version : Version) (roots numbers : List ℕ) → ascends is_small None roots ≡ true → ascends is_small None numbers ≡ true
+    → are_listed nat_cmp (λ claims. claims.number) (is_loop version) None (loops_with roots numbers) ≡ true
+loops-listed version [] numbers ascend listed = refl
+loops-listed version (root ∷ roots) numbers ascend listed =
+    made nat_cmp (λ claims. claims.number) (is_loop version) (loop_with (root ∷ roots)) None numbers
+    ∙ right-too is_small (λ number. is_loop version (loop_with (root ∷ roots) number))
+    (λ number small. loop-listed version root roots number ascend small) None numbers listed
 
 -- ---- sections
 
@@ -110,15 +113,15 @@ some-claimed [] [] loops some = some
 some-claimed [] (root ∷ roots) loops some = refl
 some-claimed (pair ∷ pairs) roots loops some = refl
 
-section-listed : (block : ℕ) (pairs : List AliasPair) (roots : List ℕ) (loops : List LoopClaims) → is_small block ≡ true
-    → are_claims false (map Alias pairs ++ (map Change roots ++ [])) ≡ true
-    → are_listed nat_cmp (λ claims. claims.number) is_loop None loops ≡ true → not (is_empty pairs && (is_empty roots && is_empty loops)) ≡ true
-    → is_section (record { block = block; aliases = pairs; changes = roots; entry = []; exit = []; loops = loops }) ≡ true
-section-listed block pairs roots loops small claims listed some =
+section-listed : (version : Version) (block : ℕ) (pairs : List AliasPair) (roots : List ℕ) (loops : List LoopClaims) → is_small block ≡ true
+    → are_claims version false (map Alias pairs ++ (map Change roots ++ [])) ≡ true
+    → are_listed nat_cmp (λ claims. claims.number) (is_loop version) None loops ≡ true → not (is_empty pairs && (is_empty roots && is_empty loops)) ≡ true
+    → is_section version (record { block = block; aliases = pairs; changes = roots; entry = []; exit = []; loops = loops }) ≡ true
+section-listed version block pairs roots loops small claims listed some =
     let all = map Alias pairs ++ (map Change roots ++ []) in
     and_from (is_small block) _ small
     (and_from (not (is_empty all && is_empty loops)) _ (some-claimed pairs roots loops some)
-    (and_from (are_claims false all) (are_listed nat_cmp (λ claims. claims.number) is_loop None loops) claims listed))
+    (and_from (are_claims version false all) (are_listed nat_cmp (λ claims. claims.number) (is_loop version) None loops) claims listed))
 
 -- ---- the certificate
 
@@ -131,7 +134,7 @@ numbers-ascend test count within =
     kept test (λ number. nat_lt number count) is_small (λ number passes less. small-below count number within less) None (range_with_len 0 count)
     (up-from None 0 count count refl (omega arith))
 
-module _ (tree : Tree) (numbers : HasNumbers tree) where
+module _ (version : Version) (tree : Tree) (numbers : HasNumbers tree) where
   roots-ascend : (test : ℕ → Bool) → ascends is_small None (roots_where tree test) ≡ true
   roots-ascend test = numbers-ascend test (length tree.variables.items) numbers.0
 
@@ -148,41 +151,41 @@ module _ (tree : Tree) (numbers : HasNumbers tree) where
       by false = roots-ascend (is_variable_parameter tree block)
 
   seconds-listed : (block first : ℕ) → is_small first ≡ true
-      → ascends (λ second. is_right false (Alias (pair first second))) None (filter (nat_lt first) (others block first)) ≡ true
+      → ascends (λ second. is_right version false (Alias (pair first second))) None (filter (nat_lt first) (others block first)) ≡ true
   seconds-listed block first small =
-      kept (nat_lt first) is_small (λ second. is_right false (Alias (pair first second)))
+      kept (nat_lt first) is_small (λ second. is_right version false (Alias (pair first second)))
       (λ second less small_too. and_from (is_small first && is_small second) (nat_lt first second)
       (and_from (is_small first) (is_small second) small small_too) less) None (others block first) (others-ascend block first)
 
-  block-pairs-listed : (block : ℕ) → are_listed pair_order (λ one. one) (λ one. is_right false (Alias one)) None (block_pairs tree block) ≡ true
+  block-pairs-listed : (block : ℕ) → are_listed pair_order (λ one. one) (λ one. is_right version false (Alias one)) None (block_pairs tree block) ≡ true
   unfolding others
   block-pairs-listed block =
-      pairs-listed (λ one. is_right false (Alias one)) (λ first. filter (nat_lt first) (others block first)) None (paired_roots tree block)
-      (right-too is_small (λ first. ascends (λ second. is_right false (Alias (pair first second))) None (filter (nat_lt first) (others block first)))
+      pairs-listed (λ one. is_right version false (Alias one)) (λ first. filter (nat_lt first) (others block first)) None (paired_roots tree block)
+      (right-too is_small (λ first. ascends (λ second. is_right version false (Alias (pair first second))) None (filter (nat_lt first) (others block first)))
       (seconds-listed block) None (paired_roots tree block) (roots-ascend (may_pair tree block)))
 
-  block-claims-listed : (block : ℕ) → are_claims false (claims_of_block (section_of tree block)) ≡ true
+  block-claims-listed : (block : ℕ) → are_claims version false (claims_of_block (section_of tree block)) ≡ true
   block-claims-listed block = by (nat_eq block 0)
     where
-      by : (main : Bool) → are_claims false
+      by : (main : Bool) → are_claims version false
           (map Alias (cond main [] (block_pairs tree block)) ++ (map Change (cond main [] (outward_roots tree block)) ++ [])) ≡ true
       by true = refl
-      by false = claims-listed (block_pairs tree block) (outward_roots tree block) (block-pairs-listed block) (roots-ascend (is_outward tree block))
+      by false = claims-listed version (block_pairs tree block) (outward_roots tree block) (block-pairs-listed block) (roots-ascend (is_outward tree block))
 
-  is-section : (block : ℕ) → not (is_vacant (section_of tree block)) ≡ true → is_small block ≡ true → is_section (section_of tree block) ≡ true
+  is-section : (block : ℕ) → not (is_vacant (section_of tree block)) ≡ true → is_small block ≡ true → is_section version (section_of tree block) ≡ true
   is-section block some small =
       let section = section_of tree block in
-      section-listed block section.aliases section.changes section.loops small (block-claims-listed block)
-      (loops-listed (visible_roots tree block) (loops_of tree block) (roots-ascend (is_visible (outline_of tree) block))
+      section-listed version block section.aliases section.changes section.loops small (block-claims-listed block)
+      (loops-listed version (visible_roots tree block) (loops_of tree block) (roots-ascend (is_visible (outline_of tree) block))
       (numbers-ascend (λ number. stands_in block (slice_get tree.loops.items number)) (length tree.loops.items) numbers.1)) some
 
   -- the widest certificate is in order
-  pub widest-is-in-order : are_in_order (widest tree) ≡ true
+  pub widest-is-in-order : are_in_order version (widest tree) ≡ true
   widest-is-in-order =
       let count = length tree.blocks.items in
       let blocks = range_with_len 0 count in
       let lists : (Section → Bool) = λ section. not (is_vacant section) in
-      ap are_in_order (kept-made lists (section_of tree) blocks)
-      ∙ made nat_cmp (λ section. section.block) is_section (section_of tree) None (filter (λ block. lists (section_of tree block)) blocks)
-      ∙ kept (λ block. lists (section_of tree block)) (λ block. nat_lt block count) (λ block. is_section (section_of tree block))
+      ap (are_in_order version) (kept-made lists (section_of tree) blocks)
+      ∙ made nat_cmp (λ section. section.block) (is_section version) (section_of tree) None (filter (λ block. lists (section_of tree block)) blocks)
+      ∙ kept (λ block. lists (section_of tree block)) (λ block. nat_lt block count) (λ block. is_section version (section_of tree block))
       (λ block some less. is-section block some (small-below count block numbers.2 less)) None blocks (up-from None 0 count count refl (omega arith))

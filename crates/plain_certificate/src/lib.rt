@@ -13,7 +13,8 @@ mod pairs;
 mod roots;
 mod sections;
 
-use certificate::{Certificate, Version};
+use certificate::Certificate;
+use domain::versions::Version;
 use roots::has_numbers;
 use sections::sections;
 use std::alloc::{AllocError, Global};
@@ -34,7 +35,7 @@ pub fn widest(alloc: Global, tree: &Tree) -> Result<Certificate, AllocError>
     // A well formed program has no more than there are numbers.
     ensures well_formed { IsWellFormed tree.now → IfOk result (λ certificate. (is_known tree.now certificate ≡ true)
         × HasNoFacts certificate × ListsAll tree.now certificate) }
-    ensures in_order { IfOk result (λ certificate. are_in_order (contents certificate) ≡ true) }
+    ensures in_order { IfOk result (λ certificate. are_in_order certificate.version (contents certificate) ≡ true) }
 {
     if !has_numbers(tree) {
         return Ok(Certificate {

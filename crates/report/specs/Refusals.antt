@@ -33,7 +33,8 @@ given = option_map (λ bytes. bytes.now)
 -- has a spelling
 abbrev pub Serves : Option (List ℕ) → Tree → CertificateRead → Type 0
 Serves (Some text) tree certificate = Spells text certificate
-Serves None tree certificate = IsAccepted tree certificate × (are_in_order (contents certificate) ≡ true)
+Serves None tree certificate =
+    IsAccepted tree certificate × (are_in_order certificate.version (contents certificate) ≡ true)
 
 -- a text is given, and this is its first fault
 abbrev pub IsFaultIn : Option (List ℕ) → ReadFault → Type 0

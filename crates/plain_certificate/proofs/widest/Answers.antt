@@ -1,6 +1,6 @@
 use Rattle.std.proofs.Common.{◌∙◌, ap}
 use Rattle.certificate.specs.declared.Certificate.{Certificate}
-use Rattle.certificate.specs.declared.Version.TheVariants.{One}
+use Rattle.domain.specs.declared.versions.Version.TheVariants.{One}
 use Rattle.certificate.specs.Contents.{are_in_order}
 use Rattle.plain_certificate.proofs.Listed.{lists-all, names-known, no-facts}
 use Rattle.plain_certificate.proofs.Ordered.{widest-is-in-order}
@@ -14,5 +14,5 @@ returns c =
     record {
       lists = (names-known tree certificate is, no-facts tree certificate is, λ numbers. lists-all tree certificate is);
       well_formed = λ well. (names-known tree certificate is, no-facts tree certificate is, lists-all tree certificate is);
-      in_order = ap are_in_order is ∙ widest-is-in-order tree (c.has_numbers.ensures.0 c.if-not-has_numbers.false);
+      in_order = ap (are_in_order One) is ∙ widest-is-in-order One tree (c.has_numbers.ensures.0 c.if-not-has_numbers.false);
     }

@@ -10,7 +10,8 @@ returns-in_err-sections-clause-only c version sections right spelled =
     let error = c.in_err-sections.field-0.0 in
     let told = c.in_err-sections.ensures in
     let only = refused_for_memory error text version sections
-    (λ other. fault_below text _ (lines c.in-Some.below.now) error c.in-Some.ensures.0 (sym c.in_ok-version.ensures) (told other)) right spelled in
+    (λ other. fault_below text _ (lines c.in-Some.below.now) c.in_ok-version.version error c.in-Some.ensures.0 (sym c.in_ok-version.ensures) (told other))
+    right spelled in
     error_only sections _ error c.from_residual-in_err-sections.ensures.1 only
 
 pub returns-clause-exact : goal.returns-clause-exact
@@ -24,5 +25,5 @@ returns-clause-exact c =
 pub returns-clause-only : goal.returns-clause-only
 returns-clause-only c version sections right spelled =
     let read = c.in_ok-sections.ensures in
-    read_only c.args.text.now _ (lines c.in-Some.below.now) read.1 (map section_of c.in_ok-sections.sections.items) sections version
-    c.in-Some.ensures.0 read.2 read.3 read.4 right spelled
+    read_only c.args.text.now _ (lines c.in-Some.below.now) read.1 (map section_of c.in_ok-sections.sections.items) sections c.in_ok-version.version
+    version c.in-Some.ensures.0 (sym c.in_ok-version.ensures) read.2 read.3 read.4 right spelled

@@ -11,9 +11,9 @@ loop-line-preserved c =
     let more = lines c.in-Some.more.now in
     let new = map section_of c.add.new.sections.items in
     let said = c.in_ok-content.ensures in
-    let next = so_far-next all more (map section_of c.loop-line.sections.items) new (said_above c.loop-line.above) c.loop-line.number
+    let next = so_far-next c.args.version all more (map section_of c.loop-line.sections.items) new (said_above c.loop-line.above) c.loop-line.number
     (lines c.loop-line.rest.now) _ (said_content c.in_ok-content.content) c.loop-line.invariant.0 c.in-Some.ensures.0
     said.0 said.1 said.2 c.in_ok-add.ensures in (
-      subst (λ above. SoFar all new above (c.loop-line.number + 1) more) (sym c.below-above.ensures) next,
+      subst (λ above. SoFar c.args.version all new above (c.loop-line.number + 1) more) (sym c.below-above.ensures) next,
       omega (arith, c.loop-line.invariant.1, c.in-Some.ensures.1),
     )

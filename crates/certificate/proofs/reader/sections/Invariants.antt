@@ -7,7 +7,7 @@ use Rattle.certificate.proofs.reader.sections.Given as goal
 
 abbrev pub invariant-loop-line : goal.invariant-loop-line
 invariant-loop-line l =
-    SoFar (lines l.below) (map section_of l.sections.items) (said_above l.above) l.number (lines l.rest)
+    SoFar l.version (lines l.below) (map section_of l.sections.items) (said_above l.above) l.number (lines l.rest)
     × (l.number + length l.rest ≤ length l.below + 2)
 
 abbrev pub decreases-loop-line : goal.decreases-loop-line

@@ -1,6 +1,6 @@
-use Rattle.std.proofs.Common.{◌++◌, ◌∙◌, ap, codes, map}
+use Rattle.std.proofs.Common.{◌++◌, ◌∙◌, ap, map}
 use Rattle.std.specs.List.{flat_map}
-use Rattle.certificate.specs.Contents.{contents, ended, section_of}
+use Rattle.certificate.specs.Contents.{contents, ended, heading, section_of}
 use Rattle.certificate.specs.Writing.{section_text}
 use Rattle.certificate.proofs.Written.{written}
 use Rattle.certificate.proofs.writer.write.Goals as goal
@@ -8,10 +8,10 @@ use Rattle.certificate.proofs.writer.write.Goals as goal
 pub returns-in-None-clause-exact : goal.returns-in-None-clause-exact
 returns-in-None-clause-exact c =
     let certificate = c.args.certificate.now in
-    let front = c.append.new.self.text.items in
+    let front = c.heading.new.self.text.items in
     let more = c.sections.ensures c.in-None.is in
     written certificate.version (contents certificate) front _
-    ((c.append.ensures more.0).1 ∙ ap (λ text. text ++ ended (codes "pcert 1")) c.new.ensures.items)
+    ((c.heading.ensures more.0).1 ∙ ap (λ text. text ++ ended (heading certificate.version)) c.new.ensures.items)
     (more.1 ∙ ap (λ sections. front ++ flat_map section_text (map section_of sections)) c.deref.ensures.value)
 
 pub returns-in-None-clause-spells : goal.returns-in-None-clause-spells

@@ -1,0 +1,6 @@
+/// The version of a certificate, which its first line names.
+#[derive(Clone, Copy)]
+pub enum Version {
+    /// `pcert 1`.
+    One,
+}
