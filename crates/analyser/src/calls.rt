@@ -2,7 +2,7 @@
 
 use crate::analysis::{Analysis, is_told};
 use crate::tally::Tally;
-use analyser_plan::events::Event;
+use analyser_claims::events::Event;
 use cert_checker::blocks::begin;
 use checker_calls::actuals::{Actual, Bindings, settle};
 use checker_trail::{Mark, State};

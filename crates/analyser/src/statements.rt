@@ -1,6 +1,6 @@
 use crate::analysis::Analysis;
 use crate::tally::Tally;
-use analyser_plan::events::{events_of, expression_events};
+use analyser_claims::events::{events_of, expression_events};
 use checker_expressions::count::Count;
 use checker_state::{Known, entire};
 use checker_ways::cases::begin_arm;

@@ -2,16 +2,10 @@
 //! a place, and the facts that may hold where blocks begin and end and in loops.
 #![tactic(auto)]
 
-mod carried;
-mod claim;
-mod claims;
-pub mod events;
+mod calls;
 mod frame;
-mod lists;
-mod parts;
 mod places;
 mod plan;
-mod program;
 mod steps;
 
 pub use plan::Plan;

@@ -1,13 +1,12 @@
 //! What is proposed where blocks begin and end, and in loops.
 
-use crate::claim::Claim;
-use crate::events::Event;
-use crate::lists::{row, settle};
-use crate::program::Program;
+use analyser_claims::events::Event;
+use analyser_claims::lists::{row, settle};
+use analyser_claims::{Claim, Program};
 use certificate::Fact;
 use checker_calls::visible::{is_outward, is_value_parameter};
 use checker_loops::pairs::Pairs;
-use domain::facts::{Span, Spans};
+use domain::facts::Spans;
 use domain::interval::Interval;
 
 /// What proposals are made of, by block number, and what turns change by loop number.
@@ -122,7 +121,7 @@ impl<'g, 'p, 't> Grounds<'g, 'p, 't> {
         for root in roots {
             for part in self.program.parts(*root) {
                 if self.program.tree.types.is_scalar(part.type_id) {
-                    let path = part.path(&self.program.memory, None);
+                    let path = part.path(&self.program.memory);
                     let range = Interval::EMPTY;
                     self.program.memory.push(facts, Fact::Range { path, range });
                 }
@@ -135,7 +134,7 @@ impl<'g, 'p, 't> Grounds<'g, 'p, 't> {
         for root in roots {
             for part in self.program.parts(*root) {
                 if part.is_direct() {
-                    let path = part.path(&self.program.memory, None);
+                    let path = part.path(&self.program.memory);
                     let spans = Spans::None;
                     self.program
                         .memory
@@ -145,24 +144,10 @@ impl<'g, 'p, 't> Grounds<'g, 'p, 't> {
         }
     }
 
-    // A claim as certificates tell it. An order begins at the least number that is tried.
+    // A claim, if certificates can tell it.
     fn add(&self, claim: &Claim, facts: &mut Vec<Fact>) {
-        let fact = match claim {
-            Claim::Stretch(array, first, last) => {
-                let part = self.program.parts(array.root).get(array.part);
-                let (Some(part), Some(first), Some(last)) = (part, first.said(), last.said()) else {
-                    return;
-                };
-                let path = part.path(&self.program.memory, None);
-                let spans = Spans::One(Span { first, last });
-                Fact::Defined { path, spans }
-            }
-            Claim::Order(root, other) => Fact::Order {
-                root: *root,
-                other: *other,
-                number: -1,
-            },
-        };
-        self.program.memory.push(facts, fact);
+        if let Some(fact) = claim.fact(self.program) {
+            self.program.memory.push(facts, fact);
+        }
     }
 }

@@ -1,6 +1,9 @@
-use crate::lists::number_of;
+use crate::calls::{Question, all_callers, all_recursive, spread};
+use crate::frame::{alias_pairs, frame, loop_changes};
 use crate::places::Grounds;
-use crate::program::{Program, Question};
+use crate::steps::add_steps;
+use analyser_claims::Program;
+use analyser_claims::lists::number_of;
 use analyser_tables::Ladders;
 use certificate::{Certificate, Fact};
 use checker_rows::Rows;
@@ -32,10 +35,11 @@ impl Plan {
     /// No memory.
     pub fn of(alloc: Global, rows: &Rows) -> Result<Plan, AllocError> {
         let program = Program::of(alloc, rows);
-        let changes = program.spread(Question::Changed);
-        let mentions = program.spread(Question::Mentioned);
-        let turns = program.loop_changes(&changes);
-        let pairs = program.alias_pairs()?;
+        let callers = all_callers(&program);
+        let changes = spread(&program, &callers, Question::Changed);
+        let mentions = spread(&program, &callers, Question::Mentioned);
+        let turns = loop_changes(&program, &changes);
+        let pairs = alias_pairs(&program)?;
         let claims = program.all_claims(&mentions);
         let grounds = Grounds {
             program: &program,
@@ -45,8 +49,7 @@ impl Plan {
             changes: &changes,
             turns: &turns,
         };
-        let mut entries = program.memory.rows(1);
-        let mut exits = program.memory.rows(1);
+        let (mut entries, mut exits) = (program.memory.rows(1), program.memory.rows(1));
         for block in 1..program.events.len() {
             program
                 .memory
@@ -57,10 +60,10 @@ impl Plan {
         }
         let loops = grounds.all_turns();
         let mut ladders = Ladders::new(alloc, rows.count())?;
-        program.add_steps(&mut ladders);
+        add_steps(&program, &mut ladders);
         ladders.finish()?;
-        let is_recursive = program.all_recursive();
-        let frame = program.frame(&pairs, changes, turns);
+        let is_recursive = all_recursive(&program.memory, &callers);
+        let frame = frame(&program, &pairs, changes, turns);
         program.memory.finish()?;
         Ok(Plan {
             frame,
@@ -68,7 +71,7 @@ impl Plan {
             exits,
             loops,
             ladders,
-            callers: program.callers,
+            callers,
             is_recursive,
         })
     }

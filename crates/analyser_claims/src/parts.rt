@@ -8,32 +8,29 @@ const MOST_PARTS: usize = 64;
 
 /// A part of a variable, or a part of each of its elements.
 #[derive(Drop)]
-pub(crate) struct Part {
+pub struct Part {
     path: Path,
-    pub(crate) type_id: TypeId,
+    pub type_id: TypeId,
     // At which place among the parts of the variable its own begin: the elements, or the fields in their order.
     inner: usize,
 }
 
 /// An array, by its place among the parts of a variable.
 #[derive(Clone, Copy, PartialEq, Eq, PartialOrd, Ord)]
-pub(crate) struct Array {
+pub struct Array {
     pub(crate) root: u32,
     pub(crate) part: usize,
 }
 
 impl Part {
-    /// The way to it, and perhaps a step on.
-    pub(crate) fn path(&self, memory: &Memory, next: Option<Step>) -> Path {
+    /// The way to it.
+    pub fn path(&self, memory: &Memory) -> Path {
         let mut steps = memory.none();
         for step in &self.path.steps {
             let step = match step {
                 Step::Element => Step::Element,
                 Step::Field { name } => field_step(memory, name),
             };
-            memory.push(&mut steps, step);
-        }
-        if let Some(step) = next {
             memory.push(&mut steps, step);
         }
         Path {
@@ -43,7 +40,7 @@ impl Part {
     }
 
     /// Whether no step leads to elements.
-    pub(crate) fn is_direct(&self) -> bool {
+    pub fn is_direct(&self) -> bool {
         let mut steps = self.path.steps.iter();
         !steps.any(|step| matches!(step, Step::Element))
     }
@@ -67,8 +64,10 @@ impl Part {
     }
 
     fn part(&self, memory: &Memory, step: Step, type_id: TypeId) -> Part {
+        let mut path = self.path(memory);
+        memory.push(&mut path.steps, step);
         Part {
-            path: self.path(memory, Some(step)),
+            path,
             type_id,
             inner: usize::MAX,
         }

@@ -1,8 +1,10 @@
 use crate::lists::Memory;
 use crate::parts::Array;
+use crate::program::Program;
+use certificate::Fact;
 use checker_rows::Rows;
 use checker_state::{Bound, bound_form};
-use domain::facts;
+use domain::facts::{self, Spans};
 use typed_tree::tree::Expr;
 
 /// How many stretches of one array are proposed in a block at most, and how many orders.
@@ -13,7 +15,7 @@ const MOST_OF_BLOCK: usize = 120;
 
 /// A number, or the value of a variable plus a number.
 #[derive(Clone, Copy, PartialEq, Eq, PartialOrd, Ord)]
-pub(crate) struct End {
+pub struct End {
     pub(crate) root: Option<u32>,
     pub(crate) number: i64,
 }
@@ -46,8 +48,8 @@ impl End {
         }
     }
 
-    /// As certificates tell it, if its number is one that they have.
-    pub(crate) fn said(self) -> Option<facts::Bound> {
+    // As certificates tell it, if its number is one that they have.
+    fn said(self) -> Option<facts::Bound> {
         let number = Bound::of_number(self.number)?.number;
         Some(match self.root {
             None => facts::Bound::Number(number),
@@ -58,7 +60,7 @@ impl End {
 
 /// What may hold of variables.
 #[derive(Clone, Copy, PartialEq, Eq, PartialOrd, Ord)]
-pub(crate) enum Claim {
+pub enum Claim {
     /// The elements of an array from one end to another are defined.
     Stretch(Array, End, End),
     /// The value of one variable is at most that of another, or nearly.
@@ -67,7 +69,7 @@ pub(crate) enum Claim {
 
 impl Claim {
     /// The variables that it names.
-    pub(crate) fn roots(&self) -> [Option<u32>; 3] {
+    pub fn roots(&self) -> [Option<u32>; 3] {
         match self {
             Claim::Stretch(array, first, last) => [Some(array.root), first.root, last.root],
             Claim::Order(root, other) => [Some(*root), Some(*other), None],
@@ -75,17 +77,37 @@ impl Claim {
     }
 
     /// Whether it names one of some variables, which ascend.
-    pub(crate) fn names_any(&self, roots: &[u32]) -> bool {
+    pub fn names_any(&self, roots: &[u32]) -> bool {
         let named = self.roots();
         let mut named = named.iter().flatten();
         named.any(|root| roots.binary_search(root).is_ok())
     }
 
     /// Whether it is of one of some variables, which ascend: of an array of theirs, or their order.
-    pub(crate) fn is_of_any(&self, roots: &[u32]) -> bool {
+    pub fn is_of_any(&self, roots: &[u32]) -> bool {
         match self {
             Claim::Stretch(array, ..) => roots.binary_search(&array.root).is_ok(),
             Claim::Order(..) => self.names_any(roots),
+        }
+    }
+
+    /// It as certificates tell it, if they have its numbers. An order begins at the least number that is tried.
+    pub fn fact(&self, program: &Program) -> Option<Fact> {
+        match self {
+            Claim::Stretch(array, first, last) => {
+                let part = program.parts(array.root).get(array.part);
+                let (Some(part), Some(first), Some(last)) = (part, first.said(), last.said()) else {
+                    return None;
+                };
+                let path = part.path(&program.memory);
+                let spans = Spans::One(facts::Span { first, last });
+                Some(Fact::Defined { path, spans })
+            }
+            Claim::Order(root, other) => Some(Fact::Order {
+                root: *root,
+                other: *other,
+                number: -1,
+            }),
         }
     }
 

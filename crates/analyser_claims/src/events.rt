@@ -39,7 +39,7 @@ pub enum Event<'t> {
 
 /// What happens, as far as memory suffices.
 #[derive(Drop)]
-pub struct Events<'t> {
+struct Events<'t> {
     list: Vec<Event<'t>>,
     refused: Option<AllocError>,
 }

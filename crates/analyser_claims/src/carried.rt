@@ -22,7 +22,7 @@ struct Name {
 
 impl<'p, 't> Program<'p, 't> {
     /// What may hold in each block, by the outward variables that each mentions; it ascends.
-    pub(crate) fn all_claims(&self, mentions: &[Vec<u32>]) -> Vec<Vec<Claim>> {
+    pub fn all_claims(&self, mentions: &[Vec<u32>]) -> Vec<Vec<Claim>> {
         let mut claims = self.memory.none();
         for block in 0..self.events.len() {
             self.memory

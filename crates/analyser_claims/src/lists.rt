@@ -3,8 +3,8 @@ use std::cell::Cell;
 
 /// Where lists take their memory. It keeps whether that ran out, so that this is asked once.
 #[derive(Drop)]
-pub(crate) struct Memory {
-    pub(crate) alloc: Global,
+pub struct Memory {
+    pub alloc: Global,
     refused: Cell<Option<AllocError>>,
 }
 
@@ -17,12 +17,12 @@ impl Memory {
     }
 
     /// An empty list.
-    pub(crate) fn none<T>(&self) -> Vec<T> {
+    pub fn none<T>(&self) -> Vec<T> {
         Vec::new(self.alloc)
     }
 
     /// So many empty lists.
-    pub(crate) fn rows<T: Drop>(&self, count: usize) -> Vec<Vec<T>> {
+    pub fn rows<T: Drop>(&self, count: usize) -> Vec<Vec<T>> {
         let mut rows = self.none();
         for _ in 0..count {
             self.push(&mut rows, self.none());
@@ -31,7 +31,7 @@ impl Memory {
     }
 
     /// Puts an item behind a list.
-    pub(crate) fn push<T: Drop>(&self, list: &mut Vec<T>, item: T) {
+    pub fn push<T: Drop>(&self, list: &mut Vec<T>, item: T) {
         if let Err(error) = list.push(item) {
             self.refused.set(Some(error.into()));
         }
@@ -48,7 +48,7 @@ impl Memory {
     }
 
     /// A list that was made, if there was memory for it.
-    pub(crate) fn list<T: Drop>(&self, made: Result<Vec<T>, AllocError>) -> Vec<T> {
+    pub fn list<T: Drop>(&self, made: Result<Vec<T>, AllocError>) -> Vec<T> {
         match made {
             Ok(list) => list,
             Err(error) => {
@@ -59,7 +59,7 @@ impl Memory {
     }
 
     /// Whether there was memory for all.
-    pub(crate) fn finish(&self) -> Result<(), AllocError> {
+    pub fn finish(&self) -> Result<(), AllocError> {
         match self.refused.get() {
             Some(error) => Err(error),
             None => Ok(()),
@@ -68,7 +68,7 @@ impl Memory {
 }
 
 /// The list of a number; an empty one where there is none.
-pub(crate) fn row<T>(rows: &[Vec<T>], number: u32) -> &[T] {
+pub fn row<T>(rows: &[Vec<T>], number: u32) -> &[T] {
     match rows.get(number as usize) {
         None => &[],
         Some(row) => row.as_slice(),
@@ -76,12 +76,12 @@ pub(crate) fn row<T>(rows: &[Vec<T>], number: u32) -> &[T] {
 }
 
 /// The number of a place in a list. More than 32 bits hold fit no memory.
-pub(crate) fn number_of(place: usize) -> u32 {
+pub fn number_of(place: usize) -> u32 {
     u32::try_from(place).unwrap_or(u32::MAX)
 }
 
 /// Makes root numbers or block numbers ascend, each once.
-pub(crate) fn settle(numbers: &mut Vec<u32>) {
+pub fn settle(numbers: &mut Vec<u32>) {
     numbers.sort_unstable();
     numbers.dedup();
 }

@@ -1,0 +1,58 @@
+use crate::events::{Event, events_of};
+use crate::lists::{Memory, row};
+use crate::parts::{Part, all_parts};
+use checker_rows::Rows;
+use std::alloc::Global;
+use typed_tree::tree::Tree;
+
+/// A program, block by block.
+#[derive(Drop)]
+pub struct Program<'p, 't> {
+    /// Where its lists take their memory, and those that are made of it.
+    pub memory: Memory,
+    pub rows: &'p Rows<'t>,
+    pub tree: &'t Tree,
+    /// What happens in each block, by its number.
+    pub events: Vec<Vec<Event<'t>>>,
+    // Of each variable, by its root number.
+    parts: Vec<Vec<Part>>,
+}
+
+impl<'p, 't> Program<'p, 't> {
+    /// The program of some rows, as far as `memory` suffices.
+    pub fn of(alloc: Global, rows: &'p Rows<'t>) -> Program<'p, 't> {
+        let memory = Memory::of(alloc);
+        let tree = rows.tree();
+        let mut events = memory.none();
+        for block in &tree.blocks {
+            memory.push(&mut events, memory.list(events_of(alloc, &block.body)));
+        }
+        let parts = all_parts(&memory, tree);
+        Program {
+            memory,
+            rows,
+            tree,
+            events,
+            parts,
+        }
+    }
+
+    /// The formal parameters of a block.
+    pub fn parameters(&self, block: u32) -> &'t [u32] {
+        match self.tree.blocks.get(block as usize) {
+            None => &[],
+            Some(block) => &block.heading.parameters,
+        }
+    }
+
+    /// The root number of the result of a block, if it has one.
+    pub fn result(&self, block: u32) -> Option<u32> {
+        let result = self.tree.blocks.get(block as usize)?.heading.result?;
+        Some(result.root)
+    }
+
+    /// The parts of a variable, itself first.
+    pub fn parts(&self, root: u32) -> &[Part] {
+        row(&self.parts, root)
+    }
+}
