@@ -151,7 +151,7 @@ impl<'a> Analysis<'a> {
             Some(state) => state,
             None => {
                 let state = self.state();
-                State::of_types(state.alloc(), state.table())
+                State::of_types(state.alloc(), state.rules(), state.table())
             }
         }
     }

@@ -114,7 +114,8 @@ fn given_facts(
     let grounds = grounds(alloc, tree, frame)?;
     let claims = all_claims(alloc, tree, frame)?;
     let aliases = all_loop_aliases(alloc, tree, &grounds.pairs, &claims)?;
-    let walk = Walk::new(State::of_types(alloc, rows), grounds, &claims, &aliases);
+    let state = State::of_types(alloc, grounds.version, rows);
+    let walk = Walk::new(state, grounds, &claims, &aliases);
     let mut analysis = Analysis::new(alloc, walk, course);
     analysis.make_room(alloc, &proposed)?;
     analysis.keep(proposed);

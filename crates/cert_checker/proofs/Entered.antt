@@ -268,7 +268,7 @@ pub block-entered : (number : ℕ) (block : Block) → Enters (block_walk number
 block-entered number block context state =
     let inside : Context = record context { block = number } in
     let claims = block_claims_at context.blocks number in
-    let begun = block_start context.tree number claims.entry in
+    let begun = block_start context.version context.tree number claims.entry in
     let body = statement_walk block.body inside begun in
     let used = result_use block.heading.result inside body.after in
     let silent : numbers_of (used.linked ++ []) ≡ [] = and_no_more used.linked [] [] (result-silent block.heading.result inside body.after) refl in

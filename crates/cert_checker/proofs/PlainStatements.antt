@@ -381,7 +381,7 @@ module _ (tree : Tree) (certificate : Certificate) (plain : IsPlain tree certifi
       let two = and_parts (are_few_cells outline number) (is_well_formed_stmt outline number block.body) one.1 in
       let context = at tree certificate plain number [] in
       let claims = of_block tree certificate plain number in
-      let begun = block_start tree number claims.entry in
+      let begun = block_start certificate.version tree number claims.entry in
       let wide : AreWide tree certificate plain number [] = λ root seen. refl in
       let body = statement_walk block.body context begun in
       let used = result_use block.heading.result context body.after in

@@ -220,7 +220,7 @@ module _ (tree : Tree) (certificate : Certificate) (unbroken : (program_walk tre
     claims = claims_on number
 
     abbrev begun : State
-    begun = block_start tree number claims.entry
+    begun = block_start certificate.version tree number claims.entry
 
     abbrev entered : Walked (Unit {0})
     entered = begin number claims.entry (within number) (walked number block block_is).state
@@ -430,10 +430,11 @@ module _ (tree : Tree) (certificate : Certificate) (unbroken : (program_walk tre
     proper-here : Proper tree world.pairs number (suc s.activations) callee
     proper-here = callee-proper tree world.pairs number block arguments caller s.activations called.from is_called called.separate
 
-    known-here : (left : ℕ) → Knows (parts_in world) (variables_in world) callee (block_start tree number (claims_on number).entry) (ready_with left).store
+    known-here : (left : ℕ)
+        → Knows (parts_in world) (variables_in world) callee (block_start certificate.version tree number (claims_on number).entry) (ready_with left).store
     known-here left =
         called-start tree world.pairs number block arguments caller s.activations called.from is_called s.store fine.typed fine.begun proper-here
-        (claims_on number).entry
+        certificate.version (claims_on number).entry
         (called.entry (begun_with left) (ready_with left) refl (assigns-all tree callee roots arguments (begun_with left)))
 
     abbrev execution : effect.Action Value

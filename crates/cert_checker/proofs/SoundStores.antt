@@ -14,9 +14,9 @@ use Rattle.domain.specs.Interval.{Interval}
 use Rattle.meaning.specs.declared.store.Value.{Value}
 use Rattle.meaning.specs.Store.{Environment, Place, Store}
 use Rattle.meaning.specs.Store as store
-use Rattle.checker_state.specs.Holds.{IsIn, IsOfRow, component_at, indexes_of, moment, value_at}
+use Rattle.checker_state.specs.Holds.{IsIn, IsOfRow, component_at, moment, value_at}
 use Rattle.checker_state.proofs.Apart.{part}
-use Rattle.checker_rows.specs.Rows.{Parts, all_parts, no_parts, rows_of, type_at}
+use Rattle.checker_rows.specs.Rows.{Parts, all_parts, indexes_of, no_parts, rows_of, type_at}
 use Rattle.checker_state.specs.Stores.{Index, Reach, all_stored, with_joined}
 use Rattle.checker_state.specs.Knows.{AreIndexes, AreRows, AreStored, BeginWith, IsFormApart, IsLooseIn, IsReach, IsReachApart, IsReached, Knows}
 use Rattle.checker_state.specs.State.{State, Table}

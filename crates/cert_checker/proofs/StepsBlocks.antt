@@ -176,7 +176,7 @@ blocks-step blocks i block declared {old = old} {mid = mid} {new = new} inside i
             let one = first.has_done ready are types in
             let same = one.noted.context_is in
             let types_behind : KnowsTypes mid =
-            subst (λ (c : Context). state_of mid.flow ≡ of_types (type_rows c.tree)) (sym same) (ap seen_core one.core_is ∙ types) in
+            subst (λ (c : Context). state_of mid.flow ≡ of_types c.version (type_rows c.tree)) (sym same) (ap seen_core one.core_is ∙ types) in
             let two = rest.has_done (loops-noted one.noted ready)
             (are ∙ ap (λ (c : Context). all_declared c.tree) (sym same)) types_behind in
             let then = (block_walk i block context state).after in

@@ -6,6 +6,7 @@ use Rattle.std.specs.Result.{IsErr, IsErrAnd}
 use Rattle.std.specs.Global.{Vec}
 use Rattle.certificate.specs.declared.Certificate.{Certificate}
 use Rattle.typed_tree.specs.declared.tree.Tree.{Tree}
+use Rattle.domain.specs.declared.versions.Version.{Version}
 use Rattle.checker_state.specs.State.{Dead, of_types}
 use Rattle.checker_trail.specs.declared.state.State.{State as Kept}
 use Rattle.checker_trail.specs.Trail.{Starts, seen}
@@ -30,9 +31,9 @@ use Rattle.cert_checker.specs.View.{AreDeclared, AreGrounds, AreLoops, IsBegun, 
 use Rattle.cert_checker.proofs.Steps.{noted-as}
 use Rattle.cert_checker.proofs.StepsBlocks.{broken-alike, open-alike}
 
-abbrev by : Tree → List Claims → List BlockClaims → Listed → ℕ → List Round → Context
-by tree claims blocks pairs block rounds =
-    record { tree = tree; claims = claims; blocks = blocks; pairs = pairs; block = block; rounds = rounds }
+abbrev by : Version → Tree → List Claims → List BlockClaims → Listed → ℕ → List Round → Context
+by version tree claims blocks pairs block rounds =
+    record { version = version; tree = tree; claims = claims; blocks = blocks; pairs = pairs; block = block; rounds = rounds }
 
 abbrev IsSome : Option Breach → Type 0
 IsSome None = ⊥
@@ -50,15 +51,20 @@ module _ (tree : Tree) (certificate : Certificate) {state : Kept} {grounds : Gro
   begun-context are table_is claims_are =
       let own : Grounds = begun.flow.grounds in
       let all = all_claims tree certificate in
-      ap₂ (λ (t : Tree) (c : List Claims). by t c (map said_section own.sections.items) own.pairs own.block (map loop_of_round own.rounds.items))
+      ap₂ (λ (t : Tree) (c : List Claims).
+      by own.version t c (map said_section own.sections.items) own.pairs own.block (map loop_of_round own.rounds.items))
       (ap (λ (s : Kept). s.table.now) begins.state_is ∙ table_is) (ap (map said_claims) begins.claims_are ∙ claims_are)
-      ∙ ap (λ (g : Grounds). by tree all (map said_section g.sections.items) g.pairs g.block (map loop_of_round g.rounds.items)) begins.grounds_are
-      ∙ ap₂ (λ (b : List BlockClaims) (p : Listed). by tree all b p grounds.block (map loop_of_round grounds.rounds.items)) are.sections_are are.pairs_are
-      ∙ ap₂ (λ (n : ℕ) (r : List Round). by tree all (all_block_claims tree certificate) (record { tree = tree; pairs = all_pairs certificate }) n r)
+      ∙ ap (λ (g : Grounds). by g.version tree all (map said_section g.sections.items) g.pairs g.block (map loop_of_round g.rounds.items))
+      begins.grounds_are
+      ∙ ap₂ (λ (b : List BlockClaims) (p : Listed). by grounds.version tree all b p grounds.block (map loop_of_round grounds.rounds.items))
+      are.sections_are are.pairs_are
+      ∙ ap₂ (λ (n : ℕ) (r : List Round).
+      by grounds.version tree all (all_block_claims tree certificate) (record { tree = tree; pairs = all_pairs certificate }) n r)
       are.block_is (ap (map loop_of_round) are.rounds_are)
+      ∙ ap (λ (v : Version). record (first_context tree certificate) { version = v }) are.version_is
 
   -- what is noted of the program
-  pub program-noted : (declared : List (Vec ℕ)) {new : Walk} → Starts tree state → AreGrounds tree certificate grounds
+  pub program-noted : (declared : List (Vec ℕ)) {new : Walk} → Starts certificate.version tree state → AreGrounds tree certificate grounds
       → map said_claims claims ≡ all_claims tree certificate
       → map (λ row. row.items) aliases
       ≡ all_loop_aliases tree (record { tree = tree; pairs = all_pairs certificate }) (all_claims tree certificate)
@@ -75,7 +81,7 @@ module _ (tree : Tree) (certificate : Certificate) {state : Kept} {grounds : Gro
       (ap (map (λ (row : Vec ℕ). row.items)) begins.aliases_are ∙ aliases_are) in
       let declares : AreDeclared declared begun = declared_are ∙ ap (λ (c : Context). all_declared c.tree) (sym context) in
       let types : KnowsTypes begun =
-      ap seen begins.state_is ∙ started.seen_is ∙ ap (λ (c : Context). of_types (type_rows c.tree)) (sym context) in
+      ap seen begins.state_is ∙ started.seen_is ∙ ap (λ (c : Context). of_types c.version (type_rows c.tree)) (sym context) in
       noted-as (program_walk tree certificate)
       (ap (λ (c : Context). (blocks_walk 0 blocks c known).open_ids) context ∙ open-alike 0 blocks (first_context tree certificate) known Dead)
       (ap (λ (c : Context). (blocks_walk 0 blocks c known).broken) context ∙ broken-alike 0 blocks (first_context tree certificate) known Dead)

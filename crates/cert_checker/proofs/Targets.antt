@@ -20,10 +20,10 @@ use Rattle.domain.specs.Interval.{Interval}
 use Rattle.meaning.specs.declared.store.Value.{Value}
 use Rattle.meaning.specs.Store.{Environment, Place, Store}
 use Rattle.meaning.specs.Store as store
-use Rattle.checker_state.specs.Holds.{IsIn, IsOfRow, indexes_of, moment}
+use Rattle.checker_state.specs.Holds.{IsIn, IsOfRow, moment}
 use Rattle.checker_state.proofs.Apart.{part}
 use Rattle.checker_rows.specs.Leaves.{Leaf, is_named, leaves_of}
-use Rattle.checker_rows.specs.Rows.{all_parts, is_structured_variable, leaf_step, rows_accessed}
+use Rattle.checker_rows.specs.Rows.{all_parts, indexes_of, is_structured_variable, leaf_step, rows_accessed}
 use Rattle.checker_rows.proofs.Numbered.{below-or, has-contains}
 use Rattle.checker_state.specs.Stores.{Index, Reach}
 use Rattle.checker_state.specs.Knows.{AreIndexes, BeginWith, IsReach, IsReached}

@@ -169,12 +169,13 @@ AreDeclared declared walk = map (λ row. row.items) declared ≡ all_declared (c
 
 -- the checker knows what types tell alone, as before each block and behind it
 abbrev pub KnowsTypes : Walk → Type 0
-KnowsTypes walk = state_of walk.flow ≡ of_types (type_rows (context_of walk).tree)
+KnowsTypes walk =
+    state_of walk.flow ≡ of_types (context_of walk).version (type_rows (context_of walk).tree)
 
 -- what is known where a block of a number begins, by what is claimed of it
 abbrev pub start_of : ℕ → Flow → State
 start_of number flow =
-    block_start flow.state.table.now number
+    block_start flow.grounds.version flow.state.table.now number
     (block_claims_at (map said_section flow.grounds.sections.items) number).entry
 
 -- a block of a number from its start to its end, by what is claimed of it
@@ -207,6 +208,7 @@ Passes walking declared old new = Does old new
 
 -- what the checker goes by before the first block of a program, by a certificate
 pub record AreGrounds (tree : Tree) (certificate : Certificate) (grounds : Grounds) : Type 0 where
+  pub version_is : grounds.version ≡ certificate.version
   pub sections_are : map said_section grounds.sections.items ≡ all_block_claims tree certificate
   pub pairs_are : grounds.pairs ≡ record { tree = tree; pairs = all_pairs certificate }
   pub block_is : grounds.block ≡ 0

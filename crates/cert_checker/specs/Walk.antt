@@ -152,7 +152,7 @@ copy_to place origin selectors reach ranges context =
 
 -- the start of a block of a number, of which these facts are claimed
 abbrev pub begin : ℕ → List Fact → Walking (Unit {0})
-begin number facts context = with_state (block_start context.tree number facts) context
+begin number facts context = with_state (block_start context.version context.tree number facts) context
 
 -- statements, values that are written, variables that are read, or records of a with, one after another
 abbrev pub all_of : List (Walking (Unit {0})) → Walking (Unit {0})
@@ -504,6 +504,7 @@ blocks_walk number (block ∷ blocks) = do
 -- what the walk over a program by a certificate goes by
 abbrev pub first_context : Tree → Certificate → Context
 first_context tree certificate = record {
+  version = certificate.version;
   tree = tree;
   claims = all_claims tree certificate;
   blocks = all_block_claims tree certificate;

@@ -89,7 +89,7 @@ pub fn begin(flow: &mut Flow, number: u32, declared: &[Vec<u32>])
     ensures only { flow.new ≡ record (flow.old) { state = flow.new.state } }
     ensures long { flow.new.state.refused ≡ None → flow.old.state.refused ≡ None }
     ensures begins { map (λ row. row.items) declared.now ≡ all_declared flow.old.state.table.now
-        → state_of flow.old ≡ of_types (type_rows flow.old.state.table.now)
+        → state_of flow.old ≡ of_types flow.old.grounds.version (type_rows flow.old.state.table.now)
         → Moves (λ _. start_of number flow.old) flow.old.state flow.new.state }
 {
     let claims = block_claims_at(&flow.grounds.sections, number);

@@ -50,7 +50,8 @@ pub(crate) fn program<'a>(
     let grounds = grounds(alloc, tree, certificate)?;
     let claims = all_claims(alloc, tree, certificate)?;
     let aliases = all_loop_aliases(alloc, tree, &grounds.pairs, &claims)?;
-    let mut walk = Walk::new(State::of_types(alloc, rows), grounds, &claims, &aliases);
+    let state = State::of_types(alloc, grounds.version, rows);
+    let mut walk = Walk::new(state, grounds, &claims, &aliases);
     let mut visits = Visits::new();
     walk.blocks(tree, count, &declared, &mut visits);
     let Some(visits) = visits.finish(tree) else {
@@ -70,6 +71,7 @@ pub fn grounds<'a>(
 {
     let pairs = all_pairs(alloc, certificate)?;
     Ok(Grounds {
+        version: certificate.version,
         sections: all_block_claims(alloc, tree, certificate)?,
         pairs: Pairs::of(alloc, tree, pairs)?,
         block: 0,

@@ -25,8 +25,9 @@ use Rattle.meaning.specs.declared.store.Value.TheVariants.{Number}
 use Rattle.meaning.specs.Meaning as meaning
 use Rattle.meaning.specs.Meaning.{Argument, environment_of, own_place, place_for, place_passed}
 use Rattle.meaning.specs.Store.{Environment, Place, Store, stored}
-use Rattle.checker_rows.specs.Rows.{Parts, all_parts, first_index, index_at, is_variable_row, rows_accessed, rows_of, rows_under}
-use Rattle.checker_rows.proofs.Accessed.{IsOf, indexes-are}
+use Rattle.checker_rows.specs.Rows.{LieIn, Parts, all_parts, first_index, index_at, indexes_at, indexes_of, is_variable_row, rows_accessed, rows_of}
+use Rattle.checker_rows.specs.Rows.{rows_under}
+use Rattle.checker_rows.proofs.Accessed.{IsOf, indexes-lie}
 use Rattle.checker_rows.proofs.Selected.{Matches}
 use Rattle.checker_state.specs.Bounds.{Bound, constant, moved_bound, plus}
 use Rattle.checker_state.specs.Holds as holding
@@ -40,7 +41,7 @@ use Rattle.checker_state.proofs.Apart.{entire-stored}
 use Rattle.checker_state.proofs.Assigned.{order-holds}
 use Rattle.checker_state.proofs.Bounds.{moved-is}
 use Rattle.checker_state.proofs.Changed.{bound-stays}
-use Rattle.checker_state.proofs.Given.{first-of}
+use Rattle.checker_state.proofs.Given.{first-lies, first-of}
 use Rattle.checker_state.proofs.Looped.{claim-holds}
 use Rattle.checker_loops.specs.Loops.{defined_of, rows_named, said, said_bound}
 use Rattle.checker_loops.specs.Sections.{BlockClaims}
@@ -348,11 +349,13 @@ module _ (tree : Tree) (pairs : List (ℕ × ℕ)) (number : ℕ) (block : Block
       span-holds (all_parts tree) outer row (constant range.first) (constant range.last) range.first range.last refl refl
       (λ steps n of_row first low high. has steps of_row)
 
-  whole-has : (row : ℕ) (index : Option OrdinalRange) → index_at (rows_of tree) row ≡ index → Holds (all_parts tree) (all_of_row index row) inner
+  whole-has : (row : ℕ) (ranges : List OrdinalRange) → indexes_at (rows_of tree) row ≡ ranges
+      → Holds (all_parts tree) (all_of_row (slice_get ranges 0) row) inner
       → (steps : List Step) → IsOf tree row steps → HasComponent (all_parts tree) inner row steps
-  whole-has row None index_is claim steps of_row = claim steps of_row
-  whole-has row (Some range) index_is claim steps of_row =
-      let at = indexes-are tree row steps range of_row index_is in
+  whole-has row [] ranges_are claim steps of_row = claim steps of_row
+  whole-has row (range ∷ ranges) ranges_are claim steps of_row =
+      let lie = subst (λ (all : List OrdinalRange). LieIn all (indexes_of steps)) ranges_are (indexes-lie tree row steps of_row) in
+      let at = first-lies range ranges steps lie in
       let (low, high, low_is, high_is, each) = span-parts (all_parts tree) inner row (constant range.first) (constant range.last) claim in
       each steps at.0 of_row at.1 (subst (λ (n : ℤ). n ≤ℤ at.0) low_is at.2) (subst (λ (n : ℤ). at.0 ≤ℤ n) high_is at.3)
 
@@ -377,7 +380,7 @@ module _ (tree : Tree) (pairs : List (ℕ × ℕ)) (number : ℕ) (block : Block
       (whole-claim own (index_at (rows_of tree) own)
       (λ steps of_row.
       let at = same steps of_row in
-      let has = whole-has row (index_at (rows_of tree) row) refl
+      let has = whole-has row (indexes_at (rows_of tree) row) refl
       (exit-here (fact.Defined path []) (defined_of tree [] row) listed (in-map (defined_of tree []) (rows_named tree path) row named))
       at.rest at.of_row in
       (has.0, at.value ∙ has.1))) knows

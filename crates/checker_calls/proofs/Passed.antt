@@ -27,7 +27,8 @@ use Rattle.meaning.specs.Store.{Environment, Place, Store, part}
 use Rattle.checker_rows.specs.Leaves.{Leaf, is_named, leaves_of}
 use Rattle.checker_rows.specs.Limits.{integer}
 use Rattle.checker_rows.proofs.Selected.{Matches}
-use Rattle.checker_state.specs.Holds.{IsIn, indexes_of, moment}
+use Rattle.checker_rows.specs.Rows.{indexes_of}
+use Rattle.checker_state.specs.Holds.{IsIn, moment}
 use Rattle.checker_state.specs.Knows.{IsIndex, IsOfForm}
 use Rattle.checker_state.specs.Stores.{Index, Reach}
 use Rattle.checker_calls.specs.Actuals.{Actual, OfRows, OfValue, OfVariable, after_call, unknown_index, unknown_reach, way_accessed}

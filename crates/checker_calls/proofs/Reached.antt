@@ -4,6 +4,7 @@ use Rattle.std.proofs.Common.{false, cond, List, [], ◌∷◌, ◌++◌, Option
 use Rattle.std.proofs.Common.{None}
 use Rattle.std.proofs.lemmas.Bool.{false≢true, or_cases}
 use Rattle.std.proofs.lemmas.Int.{ints}
+use Rattle.std.specs.Prelude.{slice_get}
 use Rattle.types.specs.declared.form.OrdinalRange.{OrdinalRange}
 use Rattle.types.specs.declared.form.Step.{Step}
 use Rattle.types.specs.declared.form.Step.TheVariants as step
@@ -12,14 +13,14 @@ use Rattle.domain.specs.Interval.{HasMember, Interval}
 use Rattle.meaning.specs.declared.store.Value.TheVariants.{Number}
 use Rattle.meaning.specs.Integers.{is_integer_number}
 use Rattle.meaning.specs.Store.{Environment, Store}
-use Rattle.checker_rows.specs.Rows.{Parts, first_index}
+use Rattle.checker_rows.specs.Rows.{LieIn, Parts, first_index, indexes_of}
 use Rattle.checker_state.specs.Bounds.{Bound, constant}
 use Rattle.checker_state.specs.State.{Claim, Dead, Defined, Holds as Holding, Live, Span, State, Stretched, Table, is_dead, state_gives}
 use Rattle.checker_state.specs.Stores.{Index, Reach, all_of_row, gives_form, gives_index, gives_indexes, gives_reached, gives_some, range_stretch}
 use Rattle.checker_state.specs.Stores.{stretch_between}
-use Rattle.checker_state.specs.Holds.{AreBounds, AreDefined, HasComponent, HoldNumbers, IsBound, IsOfRow, LieBetween, Moment, Numbers, indexes_of, moment}
+use Rattle.checker_state.specs.Holds.{AreBounds, AreDefined, HasComponent, HoldNumbers, IsBound, IsOfRow, LieBetween, Moment, Numbers, moment}
 use Rattle.checker_state.specs.Knows.{AreRows, Knows}
-use Rattle.checker_state.proofs.Given.{first-of, given-holds}
+use Rattle.checker_state.proofs.Given.{first-lies, first-of, given-holds}
 use Rattle.checker_calls.proofs.Passed.{AreIndexesOn, IsIndexOn, IsReachedBy}
 
 -- a state that is known isn't dead
@@ -85,11 +86,11 @@ module _ (rows : List Parts) (table : Table) (are : AreRows rows table) (env : E
       (λ n same. subst (λ (k : ℤ). number ≤ℤ k) same high) is
 
   -- all of a row
-  pub row-has : (row : ℕ) (steps : List Step) (found : Option OrdinalRange) → table.index row ≡ found → IsOfRow rows row steps
-      → state_gives table state (all_of_row found row) ≡ true → HasComponent rows m row steps
-  row-has row steps None found of_row is = given-holds rows table are env state store (Defined row) ordinals known is steps of_row
-  row-has row steps (Some range) found of_row is =
-      let at = are.indexes row range found steps of_row in numbers-has row range.first range.last at.0 steps of_row at.1 at.2 at.3 is
+  pub row-has : (row : ℕ) (steps : List Step) (ranges : List OrdinalRange) → LieIn ranges (indexes_of steps) → IsOfRow rows row steps
+      → state_gives table state (all_of_row (slice_get ranges 0) row) ≡ true → HasComponent rows m row steps
+  row-has row steps [] lie of_row is = given-holds rows table are env state store (Defined row) ordinals known is steps of_row
+  row-has row steps (range ∷ ranges) lie of_row is =
+      let at = first-lies range ranges steps lie in numbers-has row range.first range.last at.0 steps of_row at.1 at.2 at.3 is
 
   -- an index that lies in its range, or is of its form
   form-has : (row : ℕ) (steps : List Step) (number : ℤ) (form : Option Bound) → ((b : Bound) → form ≡ Some b → IsBound m b number)
@@ -129,7 +130,7 @@ module _ (rows : List Parts) (table : Table) (are : AreRows rows table) (env : E
     where
       by : (indexes : List Index) (numbers : List ℤ) → indexes_of way ≡ numbers → AreIndexesOn env store indexes numbers
           → gives_indexes table state row indexes ≡ true → HasComponent rows m row (way ++ rest)
-      by [] numbers at on is = row-has row (way ++ rest) (table.index row) refl of_row is
+      by [] numbers at on is = row-has row (way ++ rest) (table.indexes row) (are.indexes row (way ++ rest) of_row) of_row is
       by (index ∷ indexes) [] at on is = absurd on
       by (index ∷ indexes) (number ∷ numbers) at on is =
           index-has row (way ++ rest) number index on.0 of_row (first-then way rest number (first-on way number numbers at)) is

@@ -18,6 +18,7 @@ use Rattle.typed_tree.specs.declared.tree.Tree.{Tree}
 use Rattle.typed_tree.specs.declared.tree.Variable.{Variable}
 use Rattle.typed_tree.specs.declared.tree.VariableKind.{VariableKind}
 use Rattle.typed_tree.specs.declared.tree.VariableKind.TheVariants as kind
+use Rattle.domain.specs.declared.versions.Version.{Version}
 use Rattle.domain.specs.Facts.{Fact}
 use Rattle.domain.specs.Interval.{Interval, vacant}
 use Rattle.meaning.specs.declared.store.Value.{Value}
@@ -85,8 +86,8 @@ module _ (tree : Tree) (pairs : List (ℕ × ℕ)) (number activations : ℕ) (v
   abbrev rows : List Row
   rows = rows_of tree
 
-  abbrev start : Facts
-  start = record { rows = rows_start tree number 0 rows; held = [] }
+  abbrev start : Version → Facts
+  start rules = record { rows = rows_start tree number 0 rows; held = []; rules = rules }
 
   -- what is known of a row
   start-at : (from k : ℕ) (all : List Row) (row : Row) → slice_get all k ≡ Some row
@@ -107,9 +108,9 @@ module _ (tree : Tree) (pairs : List (ℕ × ℕ)) (number activations : ℕ) (v
   abbrev root_of : ℕ → ℕ
   root_of row = (slice_index_or (all_parts tree) row no_parts).root
 
-  row-known : (row : ℕ) (steps : List Step) → IsOf tree row steps
-      → (found : Row) × (slice_get rows row ≡ Some found) × (row_at start row ≡ row_start tree number row found (slice_get declared (root_of row)))
-  row-known row steps of_row =
+  row-known : (rules : Version) (row : ℕ) (steps : List Step) → IsOf tree row steps
+      → (found : Row) × (slice_get rows row ≡ Some found) × (row_at (start rules) row ≡ row_start tree number row found (slice_get declared (root_of row)))
+  row-known rules row steps of_row =
       let at = row-at tree row (of_row-within (all_parts tree) row steps of_row) in
       let e : 0 + row ≡ row = omega arith in (
         at.0,
@@ -118,13 +119,13 @@ module _ (tree : Tree) (pairs : List (ℕ × ℕ)) (number activations : ℕ) (v
             ∙ ap (λ (root : ℕ). row_start tree number row at.0 (slice_get declared root)) (sym (root-of_row tree row at.0 at.1)),
       )
 
-  start-holds : FactsHold (all_parts tree) start (moment visible store)
-  start-holds = record {
+  start-holds : (rules : Version) → FactsHold (all_parts tree) (start rules) (moment visible store)
+  start-holds rules = record {
     count = (let many = start-many 0 rows in
         let parts = parts-many tree in
         omega (arith, many, parts));
     ranges = λ row steps v of_row at.
-        let (found, found_is, known) = row-known row steps of_row in
+        let (found, found_is, known) = row-known rules row steps of_row in
         let home = stored-of store (visible.variables (root_of row)) steps v at in
         let there = seen tree pairs number activations visible proper (root_of row) home.0 home.1 in
         let variable = one-there (λ (x : Variable). is_round (outline_of tree) number x.block) (slice_get declared (root_of row)) there in
@@ -135,7 +136,7 @@ module _ (tree : Tree) (pairs : List (ℕ × ℕ)) (number activations : ℕ) (v
         (sym (known ∙ ap (row_start tree number row found) variable.1))
         (in-start (root_of row) variable.0 steps v (limits_or_integer found.leaf.values) variable.1 at own);
     defined = λ row is steps of_row.
-        let (found, found_is, known) = row-known row steps of_row in
+        let (found, found_is, known) = row-known rules row steps of_row in
         let passed : (of_one (is_passed_value number) (slice_get declared (root_of row)) && not (is_structured_variable tree row)) ≡ true =
         sym (ap (λ (state : RowState). state.is_defined) known) ∙ is in
         let both = and_parts (of_one (is_passed_value number) (slice_get declared (root_of row))) (not (is_structured_variable tree row)) passed in
@@ -147,11 +148,11 @@ module _ (tree : Tree) (pairs : List (ℕ × ℕ)) (number activations : ℕ) (v
   }
 
   -- where what is claimed holds
-  pub start-known : (facts : List Fact) → AllHold tree facts visible store
-      → Knows (all_parts tree) (length tree.variables.items) visible (block_start tree number facts) store
-  start-known facts hold = record {
+  pub start-known : (rules : Version) (facts : List Fact) → AllHold tree facts visible store
+      → Knows (all_parts tree) (length tree.variables.items) visible (block_start rules tree number facts) store
+  start-known rules facts hold = record {
     shows = shows tree pairs number activations visible proper;
-    holds = claims-hold (all_parts tree) (moment visible store) (all_said tree facts) (Live start) hold start-holds;
+    holds = claims-hold (all_parts tree) (moment visible store) (all_said tree facts) (Live (start rules)) hold (start-holds rules);
   }
 
 -- ---- a block that is called
@@ -220,12 +221,14 @@ module _ (tree : Tree) (pairs : List (ℕ × ℕ)) (number : ℕ) (block : Block
       (has.0, ap (λ (found : Option Place). part_of (behind store) found rest) (value-home root variable is own parts.1) ∙ has.1)
 
   -- what is known where a call begins
-  pub called-start : (store : Store) → Typed tree store → Begun activations store → Proper tree pairs number (suc activations) callee → (facts : List Fact)
-      → AllHold tree facts callee (behind store) → Knows (all_parts tree) (length tree.variables.items) callee (block_start tree number facts) (behind store)
-  called-start store typed begun proper facts hold =
+  pub called-start : (store : Store) → Typed tree store → Begun activations store → Proper tree pairs number (suc activations) callee
+      → (rules : Version) (facts : List Fact)
+      → AllHold tree facts callee (behind store)
+      → Knows (all_parts tree) (length tree.variables.items) callee (block_start rules tree number facts) (behind store)
+  called-start store typed begun proper rules facts hold =
       start-known tree pairs number (suc activations) callee (behind store) proper
       (typed-behind tree pairs number block arguments caller activations from call store typed) (callee-undefined store begun) (callee-defined store begun)
-      facts hold
+      rules facts hold
 
 -- ---- the program's block
 
@@ -321,15 +324,16 @@ module _ (tree : Tree) (pairs : List (ℕ × ℕ)) (well : IsWellFormed tree) (b
   }
 
   -- what is known where the program begins
-  pub program-start : (facts : List Fact) → AllHold tree facts main [] → Knows (all_parts tree) (length tree.variables.items) main (block_start tree 0 facts) []
-  program-start facts hold =
+  pub program-start : (rules : Version) (facts : List Fact) → AllHold tree facts main []
+      → Knows (all_parts tree) (length tree.variables.items) main (block_start rules tree 0 facts) []
+  program-start rules facts hold =
       start-known tree pairs 0 1 main [] program-proper (λ place v is. absurd (none-some v is))
       (λ root variable rest v is own at. none-some v (sym (nothing-there root rest) ∙ at))
       (λ root variable rest is passed inside.
       let parts = and_parts (nat_eq variable.block 0) (is_value_kind variable.kind) passed in
       absurd (no-parameter root variable is (eqb-true variable.block 0 parts.0)
       (or_left (is_value_kind variable.kind) (is_variable_kind variable.kind) parts.1)))
-      facts hold
+      rules facts hold
     where
       nothing-there : (root : ℕ) (rest : List Step) → value_at (moment main []) root rest ≡ None
       nothing-there root rest = by (main.variables root)

@@ -32,6 +32,7 @@ first-both (Some first) one two = refl
 
 abbrev context_by : Grounds → Tree → List Claims → Context
 context_by grounds tree claims = record {
+  version = grounds.version;
   tree = tree;
   claims = claims;
   blocks = map said_section grounds.sections.items;

@@ -46,7 +46,7 @@ use Rattle.checker_state.specs.Bounds.{Bound}
 use Rattle.domain.specs.Interval.{HasMember, Interval}
 use Rattle.types.specs.declared.form.OrdinalRange.{OrdinalRange}
 use Rattle.meaning.specs.Integers.{is_integer_number, is_within}
-use Rattle.checker_state.specs.Holds.{HasValue, HoldNumbers, IsBound, IsIn, IsOfRow, Moment, indexes_of, moment, part_of, value_at}
+use Rattle.checker_state.specs.Holds.{HasValue, HoldNumbers, IsBound, IsIn, IsOfRow, Moment, moment, part_of, value_at}
 use Rattle.checker_state.specs.Values.{IsKnown, known_range}
 use Rattle.checker_state.specs.Knows.{IsOfForm, Knows}
 use Rattle.checker_state.proofs.Looped.{range-lies}
@@ -56,7 +56,7 @@ use Rattle.checker_rows.specs.Limits.{integer}
 use Rattle.checker_state.specs.Stores.{Index, Reach, entire}
 use Rattle.typed_tree.specs.declared.tree.Tree.{Tree}
 use Rattle.checker_rows.specs.Leaves.{leaves_of}
-use Rattle.checker_rows.specs.Rows.{is_ordinal_variable, rows_accessed}
+use Rattle.checker_rows.specs.Rows.{indexes_of, is_ordinal_variable, rows_accessed}
 use Rattle.checker_rows.proofs.Accessed.{rows-count}
 use Rattle.checker_loops.proofs.Tabled.{are-rows}
 use Rattle.checker_state.specs.State.{table_of}

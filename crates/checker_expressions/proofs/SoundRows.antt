@@ -22,7 +22,7 @@ use Rattle.meaning.specs.declared.store.Value.TheVariants.{Number}
 use Rattle.meaning.specs.Store.{Environment, Store}
 use Rattle.checker_state.specs.Holds.{HasValue, IsIn, moment}
 use Rattle.checker_rows.specs.Leaves.{leaves_of}
-use Rattle.checker_rows.specs.Rows.{Parts, all_parts}
+use Rattle.checker_rows.specs.Rows.{Parts, all_parts, indexes_of}
 pub use Rattle.checker_rows.proofs.Accessed.{RowsAre, rows-are}
 pub use Rattle.checker_rows.proofs.Selected.{Matches}
 use Rattle.checker_loops.proofs.AliasedStores.{all-pass}
@@ -31,7 +31,7 @@ pub use Rattle.checker_calls.proofs.Passed.{AreComponentsOf, AreIndexesOn, IsInd
 pub use Rattle.checker_calls.proofs.Reached.{reached-has}
 use Rattle.checker_state.specs.State.{State, range_of, with_defined}
 use Rattle.checker_state.specs.Stores.{Index, Reach, gives_reached, is_entire, is_entire_by}
-use Rattle.checker_state.specs.Holds.{HasComponent, IsOfRow, indexes_of}
+use Rattle.checker_state.specs.Holds.{HasComponent, IsOfRow}
 use Rattle.checker_state.specs.Knows.{Knows}
 use Rattle.checker_state.proofs.Ranged.{in-left, in-right}
 use Rattle.checker_state.proofs.Rows.{defined-holds}

@@ -25,6 +25,7 @@ use Rattle.checker_expressions.specs.Walk.{result_of}
 -- what a walk goes by where a flow is, with these claims on loops
 abbrev pub context_of : Flow → List Claims → Context
 context_of flow claims = record {
+  version = flow.grounds.version;
   tree = flow.state.table.now;
   claims = claims;
   blocks = map said_section flow.grounds.sections.items;

@@ -45,6 +45,7 @@ use Rattle.typed_tree.specs.declared.tree.Expr.TheOpen.Passed-F.{Value as Passed
 use Rattle.typed_tree.specs.declared.tree.Expr.TheFolds.{fold-Expr, fold-Passed, fold-Link}
 use Rattle.typed_tree.specs.Accesses.{Origin, origin_of, steps_of}
 use Rattle.typed_tree.specs.WellFormed.{of_one, whole_indexes}
+use Rattle.domain.specs.declared.versions.Version.{Version}
 use Rattle.domain.specs.Interval.{Interval, is_included, has_number, common, sum, difference, negated, product, squared}
 use Rattle.domain.specs.Interval.{absolute, quotient, remainder, without_zero_end, at_least, both, either}
 use Rattle.domain.specs.Interval.{complement, joined, truth_values, vacant}
@@ -77,9 +78,10 @@ use Rattle.checker_calls.specs.Entry.{are_given}
 use Rattle.checker_calls.specs.Overlaps.{are_separate}
 use Rattle.checker_calls.specs.Exit.{behind_call, result_range, roots_changed}
 
--- what a walk goes by: the program, the claims on its loops and its blocks, the listed pairs, the number of the block,
--- and the loops round the point, the outermost first
+-- what a walk goes by: the version of the certificate, by whose rules it goes; the program, the claims on its loops and
+-- its blocks, the listed pairs, the number of the block, and the loops round the point, the outermost first
 pub record Context : Type 0 where
+  pub version : Version
   pub tree : Tree
   pub claims : List Claims
   pub blocks : List BlockClaims

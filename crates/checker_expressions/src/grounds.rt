@@ -9,10 +9,13 @@ use checker_loops::pairs::Pairs;
 use checker_loops::rounds::{Round, all_list};
 use checker_loops::sections::{BlockSection, block_claims_at};
 use checker_loops::starts::is_own;
+use domain::versions::Version;
 
 /// What a walk goes by. What is claimed of loops stands beside it: nothing here depends on that.
 #[derive(Drop)]
 pub struct Grounds<'a> {
+    /// The version of the certificate, by whose rules the walk goes.
+    pub version: Version,
     /// What the certificate claims of each block, by its number.
     pub sections: Vec<BlockSection<'a>>,
     /// The variables that may share a place, as they are listed.

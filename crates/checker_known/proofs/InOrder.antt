@@ -22,6 +22,7 @@ use Rattle.checker_state.specs.View.{said_held}
 use Rattle.checker_known.specs.declared.order.Group.{Group}
 use Rattle.checker_known.specs.declared.order.Group.TheVariants as group
 use Rattle.checker_state.specs.Bounds.{Bound, bound_order, is_variable, variable_order}
+use Rattle.types.specs.declared.form.OrdinalRange.{OrdinalRange}
 use Rattle.checker_state.specs.State.{Facts, Held, Ordered, Span, Stretch, Stretched, covers, have_spans, held_order, says_at_most, span_order}
 use Rattle.checker_known.specs.Halves.{Falls, IsEdge}
 use Rattle.checker_known.specs.Order.{AreBetween, AreOf, comes_before, disorder_of, out_of_order, stands, wrong, wrong_around, wrong_at}
@@ -425,14 +426,15 @@ says-no-second a b none (Stretched stretch) = refl
 says-no-second a b none (Ordered x y number) =
     ap (λ (q : Option ℕ). is_variable x a.root && (is_variable y q && int_le (number +ℤ a.number) b.number)) none ∙ and-false (is_variable x a.root)
 
-pub covers-outside : (known : Facts) (wanted : Stretch) (one : Held) → Outside (group.Row wanted.row) one → covers known wanted one ≡ false
-covers-outside known wanted (Ordered x y number) outside = refl
-covers-outside known wanted (Stretched stretch) outside =
+pub covers-outside : (known : Facts) (indexes : List OrdinalRange) (wanted : Stretch) (one : Held) → Outside (group.Row wanted.row) one
+    → covers known indexes wanted one ≡ false
+covers-outside known indexes wanted (Ordered x y number) outside = refl
+covers-outside known indexes wanted (Stretched stretch) outside =
     ⊎_elim
     (λ (same : nat_eq wanted.row stretch.row ≡ true).
     absurd (outside (sym (nat_cmp_is stretch.row wanted.row Equal (sym (eqb-true wanted.row stretch.row same))))))
     (λ (other : nat_eq wanted.row stretch.row ≡ false).
-    ap (λ (b : Bool). b && have_spans known wanted.spans stretch.spans) other)
+    ap (λ (b : Bool). b && have_spans known indexes wanted.spans stretch.spans) other)
     (cases_Bool (nat_eq wanted.row stretch.row))
 
 pub none-at-all : (test : Held → Bool) (held : List Held) → ((one : Held) → test one ≡ false) → false ≡ list_any test held

@@ -12,3 +12,4 @@ pub mod Longer
 pub mod Types
 pub mod Arrivals
 pub mod HeldGiven
+pub mod Within

@@ -4,6 +4,7 @@ use Rattle.std.specs.Prelude.{◌≡◌, true, false, Bool, List, [], ◌∷◌,
 use Rattle.std.specs.Prelude.{suc, ◌≤◌, take, drop}
 use Rattle.std.specs.Prelude.{Option, Some, None}
 use Rattle.std.specs.List.{filter_map, insert, remove}
+use Rattle.domain.specs.declared.versions.Version.{Version}
 use Rattle.checker_state.specs.declared.held.Held.{Held as KeptHeld}
 use Rattle.checker_known.specs.declared.known.Known.{Known}
 use Rattle.checker_known.specs.declared.known.Row.{Row}
@@ -13,14 +14,16 @@ use Rattle.checker_state.specs.State.{Dead, Facts, Held, Live, State, with_one}
 use Rattle.checker_state.specs.View.{said_held}
 use Rattle.checker_known.specs.View.{said_row}
 
--- what changes: what is known of rows, what is held, and whether no run comes here
+-- what changes: what is known of rows, what is held, and whether no run comes here; and by whose rules, which stay
 pub record Core : Type 0 where
   pub rows : List Row
   pub held : List KeptHeld
   pub is_dead : Bool
+  pub rules : Version
 
 abbrev pub core : Known → Core
-core known = record { rows = known.rows.items; held = known.held.items; is_dead = known.is_dead }
+core known =
+    record { rows = known.rows.items; held = known.held.items; is_dead = known.is_dead; rules = known.rules }
 
 -- no list by variables was refused its growth
 abbrev pub AllGrew : Known → Type 0
@@ -28,7 +31,7 @@ AllGrew known = known.resting.refused ≡ None
 
 -- as the definitions see it
 abbrev pub viewed : Core → Facts
-viewed core = record { rows = map said_row core.rows; held = map said_held core.held }
+viewed core = record { rows = map said_row core.rows; held = map said_held core.held; rules = core.rules }
 
 abbrev pub seen_core : Core → State
 seen_core core = if core.is_dead then Dead else Live (viewed core)

@@ -1,5 +1,7 @@
-ghost use Rattle.std.specs.Prelude.{◌≡◌, map, pos};
+ghost use Rattle.std.specs.Prelude.{◌≡◌, ◌∷◌, [], drop, map, pos};
 ghost use Rattle.std.specs.List.{list_any};
+ghost use Rattle.checker_rows.specs.Leaves.{index_before};
+ghost use Rattle.checker_rows.specs.Rows.{indexes_at, rows_of};
 ghost use Rattle.checker_state.specs.Bounds.{raised_bound};
 ghost use Rattle.checker_state.specs.State.{Live, bound_range, covers, gives, gives_claim, gives_stretch, has_number};
 ghost use Rattle.checker_state.specs.State.{has_span, has_value, has_values, have_spans, have_values, is_empty};
@@ -111,39 +113,53 @@ impl Known {
         self.is_at_most(held.first, wanted.first) && self.is_at_most(wanted.last, held.last)
     }
 
-    // The same of inner spans.
-    fn has_inner(&self, wanted: Option<Span>, held: Option<Span>) -> bool
-        ensures { result ≡ have_spans (viewed (core self.now)) (inner_spans wanted) (inner_spans held) }
+    // Whether an inner span is known to have all that is wanted of the inner index.
+    #[tactic(auto, using(crate::proofs::Within::inner_has))]
+    fn has_inner(&self, table: &Rows, wanted: Stretch, held: Option<Span>) -> bool
+        ensures { result ≡ have_spans (viewed (core self.now)) (drop 1 (indexes_at (rows_of table.now) wanted.row))
+            (inner_spans wanted.inner) (inner_spans held) }
     {
-        match (wanted, held) {
+        match (wanted.inner, held) {
             (_, None) => true,
-            (None, Some(_)) => false,
+            (None, Some(held)) => self.has_all(table.inner(wanted.row), held),
             (Some(wanted), Some(held)) => self.has_span(wanted, held),
         }
     }
 
+    // Whether a span is known to have all values of an index, if it is told which these are.
+    fn has_all(&self, index: Option<OrdinalRange>, held: Span) -> bool
+        ensures { result ≡ have_spans (viewed (core self.now)) (index_before index []) [] (said_span held ∷ []) }
+    {
+        match index {
+            None => false,
+            Some(range) => self.has_span(Span::all(range), held),
+        }
+    }
+
     // Whether what is held is known to have all of a stretch.
-    fn is_within(&self, wanted: Stretch, held: &Held) -> bool
-        ensures { result ≡ covers (viewed (core self.now)) (said_stretch wanted) (said_held held.now) }
+    fn is_within(&self, table: &Rows, wanted: Stretch, held: &Held) -> bool
+        ensures { result ≡ covers (viewed (core self.now)) (indexes_at (rows_of table.now) wanted.row)
+            (said_stretch wanted) (said_held held.now) }
     {
         match held {
             Held::Stretched(stretch) => {
                 wanted.row == stretch.row
                     && self.has_span(wanted.span, stretch.span)
-                    && self.has_inner(wanted.inner, stretch.inner)
+                    && self.has_inner(table, wanted, stretch.inner)
             }
             Held::Ordered(_) => false,
         }
     }
 
     // Whether something that is held is.
-    fn is_covered(&self, wanted: Stretch) -> bool
+    fn is_covered(&self, table: &Rows, wanted: Stretch) -> bool
         ensures { result
-            ≡ list_any (covers (viewed (core self.now)) (said_stretch wanted)) (map said_held self.now.held.items) }
+            ≡ list_any (covers (viewed (core self.now)) (indexes_at (rows_of table.now) wanted.row)
+            (said_stretch wanted)) (map said_held self.now.held.items) }
     {
         let (first, end) = self.places(Group::Row(wanted.row));
         for place in first..end {
-            if self.is_within(wanted, &self.held[place]) {
+            if self.is_within(table, wanted, &self.held[place]) {
                 return true;
             }
         }
@@ -151,12 +167,13 @@ impl Known {
     }
 
     // Whether something that is held has all first indexes of a row, if it has one.
-    fn is_spanned(&self, row: usize, index: Option<OrdinalRange>) -> bool
-        ensures { result ≡ is_spanned (viewed (core self.now)) row index }
+    #[tactic(auto, using(crate::proofs::Within::spanned_none, crate::proofs::Within::spanned_some))]
+    fn is_spanned(&self, table: &Rows, row: usize) -> bool
+        ensures { result ≡ is_spanned (viewed (core self.now)) row (indexes_at (rows_of table.now) row) }
     {
-        match index {
+        match table.index(row) {
             None => false,
-            Some(range) => self.is_covered(Stretch::all(row, range)),
+            Some(range) => self.is_covered(table, Stretch::all(row, range)),
         }
     }
 
@@ -164,7 +181,7 @@ impl Known {
     pub(crate) fn is_whole(&self, table: &Rows, row: usize) -> bool
         ensures { result ≡ is_whole (table_of table.now) (viewed (core self.now)) row }
     {
-        self.row(row).is_defined || self.is_spanned(row, table.index(row))
+        self.row(row).is_defined || self.is_spanned(table, row)
     }
 
     /// Whether an ordinal variable that is there is known to be defined.
@@ -210,7 +227,7 @@ impl Known {
     {
         self.have_values(table, stretch)
             && (self.has_empty(stretch)
-                || (self.is_whole(table, stretch.row) || self.is_covered(stretch)))
+                || (self.is_whole(table, stretch.row) || self.is_covered(table, stretch)))
     }
 
     // Whether an order is given: both variables are defined, and the first is at most the second plus the number.

@@ -11,6 +11,7 @@ use crate::order::{wrong_around, wrong_at};
 use crate::resting::Resting;
 use checker_state::Held;
 use domain::interval::Interval;
+use domain::versions::Version;
 use std::alloc::{AllocError, AllocFailed};
 
 /// What is known of a row.
@@ -54,6 +55,8 @@ pub struct Known {
     pub resting: Resting,
     /// `true`: no run comes here.
     pub is_dead: bool,
+    /// The version of certificates by whose rules it is known.
+    pub rules: Version,
     pub ghost counted: { disorder ≡ disorder_of (map said_held held.items) },
     pub ghost knots_counted: { AreCounted knots.items (map said_held held.items) },
     pub ghost all_listed: { resting.is_whole ≡ true → AreListed resting.lists.items (map said_held held.items) },

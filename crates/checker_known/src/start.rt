@@ -5,14 +5,15 @@ ghost use Rattle.checker_known.specs.View.{said_row, type_rows};
 use crate::known::{Known, Row};
 use crate::resting::Resting;
 use checker_rows::Rows;
+use domain::versions::Version;
 use std::alloc::{AllocError, Global};
 
 impl Known {
     ghost use Rattle.checker_known.specs.Known.{core, seen_core};
 
-    /// What is known by types alone.
-    pub fn of_types(alloc: Global, table: &Rows) -> Result<Known, AllocError>
-        ensures { IfOk result (λ known. seen_core (core known) ≡ of_types (type_rows table.now)) }
+    /// What is known by types alone, by the rules of a version of certificates.
+    pub fn of_types(alloc: Global, rules: Version, table: &Rows) -> Result<Known, AllocError>
+        ensures { IfOk result (λ known. seen_core (core known) ≡ of_types rules (type_rows table.now)) }
     {
         let rows = type_rows(alloc, table)?;
         let knots = vec![in alloc; 0; rows.len()]?;
@@ -24,6 +25,7 @@ impl Known {
             knots,
             resting,
             is_dead: false,
+            rules,
         })
     }
 }

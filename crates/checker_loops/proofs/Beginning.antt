@@ -19,6 +19,7 @@ use Rattle.typed_tree.specs.declared.tree.VariableKind.{VariableKind}
 use Rattle.typed_tree.specs.declared.tree.VariableKind.TheVariants as kind
 use Rattle.typed_tree.specs.WellFormed.{is_local_kind, is_result_kind, is_value_kind, of_one}
 use Rattle.checker_rows.specs.Limits.{limits_or_integer}
+use Rattle.domain.specs.declared.versions.Version.{Version}
 use Rattle.checker_rows.specs.Rows.{Row, is_structured_variable, is_whole_row, rows_of, rows_under}
 use Rattle.checker_rows.proofs.Numbered.{number-under, own-row, root-of_row, some-at, under-root}
 use Rattle.checker_state.specs.Loops.{is_among}
@@ -44,13 +45,15 @@ abbrev changed : (RowState → RowState) → List ℕ → List RowState → List
 changed change [] states = states
 changed change (row ∷ rows) states = changed change rows (set states row (change (get_or states row no_row)))
 
-vacant-changed : (rows : List ℕ) (states : List RowState) → rows_vacant rows (of_types states) ≡ of_types (changed undefined rows states)
-vacant-changed [] states = refl
-vacant-changed (row ∷ rows) states = vacant-changed rows (set states row (undefined (get_or states row no_row)))
+vacant-changed : (rules : Version) (rows : List ℕ) (states : List RowState)
+    → rows_vacant rows (of_types rules states) ≡ of_types rules (changed undefined rows states)
+vacant-changed rules [] states = refl
+vacant-changed rules (row ∷ rows) states = vacant-changed rules rows (set states row (undefined (get_or states row no_row)))
 
-defined-changed : (rows : List ℕ) (states : List RowState) → rows_defined rows (of_types states) ≡ of_types (changed defined rows states)
-defined-changed [] states = refl
-defined-changed (row ∷ rows) states = defined-changed rows (set states row (defined (get_or states row no_row)))
+defined-changed : (rules : Version) (rows : List ℕ) (states : List RowState)
+    → rows_defined rows (of_types rules states) ≡ of_types rules (changed defined rows states)
+defined-changed rules [] states = refl
+defined-changed rules (row ∷ rows) states = defined-changed rules rows (set states row (defined (get_or states row no_row)))
 
 changed-many : (change : RowState → RowState) (rows : List ℕ) (states : List RowState) → length (changed change rows states) ≡ length states
 changed-many change [] states = refl
@@ -209,19 +212,19 @@ begun_rows tree block root (Some variable) states =
     cond (is_own block variable) (changed undefined (root ∷ rows_under tree root []) states)
     (cond (is_passed_value block variable) (changed defined (rows_under tree root []) states) states)
 
-begun-as : (tree : Tree) (block root : ℕ) (variable : Option Variable) (states : List RowState)
-    → begun tree block root variable (of_types states) ≡ of_types (begun_rows tree block root variable states)
-begun-as tree block root None states = refl
-begun-as tree block root (Some variable) states = by (is_own block variable) (is_passed_value block variable)
+begun-as : (rules : Version) (tree : Tree) (block root : ℕ) (variable : Option Variable) (states : List RowState)
+    → begun tree block root variable (of_types rules states) ≡ of_types rules (begun_rows tree block root variable states)
+begun-as rules tree block root None states = refl
+begun-as rules tree block root (Some variable) states = by (is_own block variable) (is_passed_value block variable)
   where
     by : (own passed : Bool)
-        → cond own (rows_vacant (rows_under tree root []) (with_range root vacant (of_types states)))
-        (cond passed (rows_defined (rows_under tree root []) (of_types states)) (of_types states))
-        ≡ of_types
+        → cond own (rows_vacant (rows_under tree root []) (with_range root vacant (of_types rules states)))
+        (cond passed (rows_defined (rows_under tree root []) (of_types rules states)) (of_types rules states))
+        ≡ of_types rules
         (cond own (changed undefined (root ∷ rows_under tree root []) states)
         (cond passed (changed defined (rows_under tree root []) states) states))
-    by true passed = vacant-changed (root ∷ rows_under tree root []) states
-    by false true = defined-changed (rows_under tree root []) states
+    by true passed = vacant-changed rules (root ∷ rows_under tree root []) states
+    by false true = defined-changed rules (rows_under tree root []) states
     by false false = refl
 
 begun-many : (tree : Tree) (block root : ℕ) (variable : Option Variable) (states : List RowState)
@@ -280,12 +283,13 @@ all_rows tree block [] states = states
 all_rows tree block (root ∷ roots) states =
     all_rows tree block roots (begun_rows tree block root (slice_get tree.variables.items root) states)
 
-all-as : (tree : Tree) (block : ℕ) (roots : List ℕ) (states : List RowState)
-    → all_begun tree block roots (of_types states) ≡ of_types (all_rows tree block roots states)
-all-as tree block [] states = refl
-all-as tree block (root ∷ roots) states =
+all-as : (rules : Version) (tree : Tree) (block : ℕ) (roots : List ℕ) (states : List RowState)
+    → all_begun tree block roots (of_types rules states) ≡ of_types rules (all_rows tree block roots states)
+all-as rules tree block [] states = refl
+all-as rules tree block (root ∷ roots) states =
     let variable = slice_get tree.variables.items root in
-    ap (all_begun tree block roots) (begun-as tree block root variable states) ∙ all-as tree block roots (begun_rows tree block root variable states)
+    ap (all_begun tree block roots) (begun-as rules tree block root variable states)
+    ∙ all-as rules tree block roots (begun_rows tree block root variable states)
 
 all-many : (tree : Tree) (block : ℕ) (roots : List ℕ) (states : List RowState) → length (all_rows tree block roots states) ≡ length states
 all-many tree block [] states = refl
@@ -455,11 +459,11 @@ module _ (tree : Tree) (block : ℕ) where
       ∙ sym (start-at tree block 0 number rows row is))
 
   -- a block begins
-  pub start-is : all_begun tree block (own_roots tree (all_declared tree) block) (of_types (type_rows tree))
-      ≡ of_types (rows_start tree block 0 (rows_of tree))
-  start-is =
-      ap (λ (roots : List ℕ). all_begun tree block roots (of_types (type_rows tree))) (own-are tree block)
-      ∙ all-as tree block its_roots (type_rows tree) ∙ ap of_types rows-start
+  pub start-is : (rules : Version) → all_begun tree block (own_roots tree (all_declared tree) block) (of_types rules (type_rows tree))
+      ≡ of_types rules (rows_start tree block 0 (rows_of tree))
+  start-is rules =
+      ap (λ (roots : List ℕ). all_begun tree block roots (of_types rules (type_rows tree))) (own-are tree block)
+      ∙ all-as rules tree block its_roots (type_rows tree) ∙ ap (of_types rules) rows-start
 
 -- ---- one after another
 

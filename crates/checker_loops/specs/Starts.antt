@@ -6,6 +6,7 @@ use Rattle.std.specs.Prelude.{map, min, nat_eq, slice_get}
 use Rattle.std.specs.List.{range_with_len}
 use Rattle.domain.specs.Interval.{vacant}
 use Rattle.domain.specs.Facts.{Fact}
+use Rattle.domain.specs.declared.versions.Version.{Version}
 use Rattle.typed_tree.specs.declared.tree.Tree.{Tree}
 use Rattle.typed_tree.specs.declared.tree.Variable.{Variable}
 use Rattle.typed_tree.specs.WellFormed.{is_local_kind, is_result_kind, is_value_kind, of_one}
@@ -39,10 +40,10 @@ rows_start tree block number (row ∷ rows) =
     row_start tree block number row (slice_get tree.variables.items row.root)
     ∷ rows_start tree block (suc number) rows
 
--- what is known where an activation of a block begins, of which these facts are claimed
-abbrev pub block_start : Tree → ℕ → List Fact → State
-block_start tree block facts =
-    with_claims (all_said tree facts) (of_types (rows_start tree block 0 (rows_of tree)))
+-- what is known where an activation of a block begins, of which these facts are claimed, by the rules of a version
+abbrev pub block_start : Version → Tree → ℕ → List Fact → State
+block_start rules tree block facts =
+    with_claims (all_said tree facts) (of_types rules (rows_start tree block 0 (rows_of tree)))
 
 -- ---- the variables that blocks declare
 

@@ -1,6 +1,7 @@
 ghost use Rattle.std.specs.Prelude.{◌≡◌, ◌<◌, ◌≤◌, ◌^◌, [], false, IfOk, IsSome, MatchOption, length, map, replicate};
 ghost use Rattle.std.specs.Prelude.{slice_get, suc};
 ghost use Rattle.typed_tree.specs.WellFormed.{IsWellFormed};
+ghost use Rattle.domain.specs.declared.versions.Version.{Version};
 ghost use Rattle.certificate.specs.Contents.{said_fact};
 ghost use Rattle.checker_rows.specs.View.{numbers};
 ghost use Rattle.checker_state.specs.State.{of_types};
@@ -79,9 +80,9 @@ fn declare(rows: &mut Vec<Vec<u32>>, block: usize, root: u32) -> Result<(), Allo
 /// facts are claimed, by the variables that each block declares. Before it nothing is known but by types.
 pub fn begin_block(state: &mut State, declared: &[Vec<u32>], block: u32, facts: &[Fact])
     ensures long { state.new.refused ≡ None → state.old.refused ≡ None }
-    ensures begins { map (λ row. row.items) declared.now ≡ all_declared state.old.table.now
-        → seen state.old ≡ of_types (type_rows state.old.table.now)
-        → Moves (λ _. block_start state.old.table.now block (map said_fact facts.now)) state.old state.new }
+    ensures begins { (rules : Version) → map (λ row. row.items) declared.now ≡ all_declared state.old.table.now
+        → seen state.old ≡ of_types rules (type_rows state.old.table.now)
+        → Moves (λ _. block_start rules state.old.table.now block (map said_fact facts.now)) state.old state.new }
 {
     begin_all(
         state,

@@ -1,6 +1,6 @@
 -- The rows of a program under an access: the components of each lie on the ways of its selectors, and the rows stand side by side with the leaves of the type
 -- there.
-use Rattle.std.proofs.Common.{arith, ◌≡◌, ⊎_elim, ◌⊎◌, inl, inr, ◌∙◌, sym, ap, refl, subst, ℕ, ◌+◌, ◌<◌, ◌≤◌, ℤ, ◌≤ℤ◌, Bool, true, false, cond}
+use Rattle.std.proofs.Common.{arith, ◌≡◌, ⊎_elim, ◌⊎◌, inl, inr, ◌∙◌, sym, ap, refl, subst, ℕ, ◌+◌, ◌<◌, ◌≤◌, Bool, true, false, cond}
 use Rattle.std.proofs.Common.{List, [], ◌∷◌, ◌++◌, append-nil, length, map, filter, Option, Some, None}
 use Rattle.std.proofs.lemmas.Bool.{and_from, cases_lt, eq-eqb, false≢true}
 use Rattle.std.proofs.lemmas.Bool.Decides.{Decides-int_eq}
@@ -31,12 +31,13 @@ use Rattle.typed_tree.specs.declared.tree.Selector.{Selector}
 use Rattle.typed_tree.specs.declared.tree.Tree.{Tree}
 use Rattle.typed_tree.specs.declared.tree.Variable.{Variable}
 use Rattle.checker_rows.specs.Leaves.{Leaf, LeafStep, Elements, FieldAt, begins, behind_elements, is_named, leaves_at, leaves_of, range_at, scalar}
-use Rattle.checker_rows.specs.Rows.{Parts, Row, all_parts, components_in, first_index, index_at, leaf_rows, leaf_step, no_parts, parts_of, path_step}
+use Rattle.checker_rows.specs.Rows.{LieIn, Parts, Row, all_parts, components_in, indexes_at, indexes_of, leaf_rows, leaf_step, no_parts, parts_of}
+use Rattle.checker_rows.specs.Rows.{path_step, row_indexes}
 use Rattle.checker_rows.specs.Rows.{rows_accessed, rows_of, rows_under}
 use Rattle.checker_rows.proofs.Components.{Has, components_of_scalar, each-alone, each-indexed, each-named, in-field_leaf, mapped-at, only}
 use Rattle.checker_rows.proofs.Leafed.{leafed_before, leaves_of_form, leaves_of_scalar}
 use Rattle.checker_rows.proofs.Numbered.{IsLeafOf, below-or, contains-has, has-contains, in-filter, leaf-of, leaf-parts, leaf-row}
-use Rattle.checker_rows.proofs.Numbered.{of-filter, own-index, own-parts, parts-many, row-of_leaf, some-at}
+use Rattle.checker_rows.proofs.Numbered.{of-filter, own-indexes, own-parts, parts-many, row-of_leaf, some-at}
 use Rattle.checker_rows.proofs.Selected.{Behind, Matches, Reaches, begins-behind, behind-named, named-behind, path_of, reaches}
 use Rattle.checker_rows.proofs.Under.{all_under, leaves_under}
 use Rattle.checker_rows.proofs.Variables.{part-there, part_under, row_of, rows-many, rows_before, under_of, variable_first}
@@ -164,20 +165,15 @@ rows-apart tree row other steps one two same =
     ⊎_elim (λ b. absurd (leaf-inner tree row steps a b.steps_are)) (λ b. leaves-apart tree row other steps a b same) (row-is tree other steps two))
     (row-is tree row steps one)
 
--- the first index on the way to a component of a row is one of its values
-abbrev pub IndexesAre : Tree → Type 0
-IndexesAre tree =
-    (row : ℕ) (steps : Steps) (range : OrdinalRange) → IsOf tree row steps → index_at (rows_of tree) row ≡ Some range
-    → (index : ℤ) × (first_index steps ≡ Some index) × (range.first ≤ℤ index) × (index ≤ℤ range.last)
-
-pub indexes-are : (tree : Tree) → IndexesAre tree
-indexes-are tree number steps range of_row ranged =
+-- the indexes on the way to a component of a row are of its values
+pub indexes-lie : (tree : Tree) (row : ℕ) (steps : Steps) → IsOf tree row steps → LieIn (indexes_at (rows_of tree) row) (indexes_of steps)
+indexes-lie tree number steps of_row =
     ⊎_elim
-    (λ own. absurd (none-some range (sym (own-index tree number own.within) ∙ ranged)))
+    (λ own. subst (λ (ranges : List OrdinalRange). LieIn ranges (indexes_of steps)) (sym (own-indexes tree number own.within)) tt)
     (λ is.
     let at : slice_get (rows_of tree) number ≡ Some is.row = ap (slice_get (rows_of tree)) is.number_is ∙ leaf-row tree is.k ∙ is.is in
-    let own : is.row.leaf.index ≡ Some range = sym (ap (option_and_then (λ (row : Row). row.leaf.index)) at) ∙ ranged in
-    each-indexed tree.types is.leaf.variable.type_id steps is.row.leaf range is.of_type (is.leaf.j, is.leaf.leaf_is) is.named own)
+    subst (λ (row : Option Row). LieIn (row_indexes row) (indexes_of steps)) (sym at)
+    (each-indexed tree.types is.leaf.variable.type_id steps is.row.leaf is.of_type (is.leaf.j, is.leaf.leaf_is) is.named))
     (row-is tree number steps of_row)
 
 -- ---- under an access

@@ -1,4 +1,4 @@
--- The components of a type and its leaves: each component is named by a leaf, by one alone, and the first index on its way is one of the leaf's.
+-- The components of a type and its leaves: each component is named by a leaf, by one alone, and the indexes on its way are those of the leaf.
 use Rattle.std.proofs.Common.{arith, ◌≡◌, ⊎_elim, ◌∙◌, sym, ap, refl, subst, ℕ, zero, suc, ◌+◌, ◌<◌, ℤ, pos, negsuc, ◌+ℤ◌, ◌-ℤ◌, ◌≤ℤ◌, ◌<ℤ◌}
 use Rattle.std.proofs.Common.{Bool, true, false, ◌&&◌, List, [], ◌∷◌, ◌++◌, length, map, nat_eq, take, Option, Some, None}
 use Rattle.std.proofs.lemmas.Bool.{and_parts, cases_lt, eq-eqb, eqb-true, false≢true}
@@ -18,9 +18,10 @@ use Rattle.types.proofs.Elements.{elements_components, value_at}
 use Rattle.types.proofs.Growing.{slice_get-right}
 use Rattle.types.proofs.Laid.{components_before, components_not_before, components_of_form, components_of_none, laid_before, length_values, values_laid}
 use Rattle.types.proofs.Once.{behind, in_either}
-use Rattle.checker_rows.specs.Leaves.{Leaf, Leafed, LeafStep, Elements, FieldAt, behind_elements, behind_field, fields_leaves, form_leaves, is_named, leaves_at}
+use Rattle.checker_rows.specs.Leaves.{Leaf, Leafed, LeafStep, Elements, FieldAt, behind_elements, behind_field, fields_leaves, form_leaves, index_before}
+use Rattle.checker_rows.specs.Leaves.{is_named, leaves_at}
 use Rattle.checker_rows.specs.Leaves.{leaves_of, range_at, scalar}
-use Rattle.checker_rows.specs.Rows.{first_index}
+use Rattle.checker_rows.specs.Rows.{LieIn, indexes_of}
 use Rattle.checker_rows.proofs.Leafed.{leafed_before, leaves_before, leaves_not_before, leaves_of_form, leaves_of_none, range_leafed}
 
 -- ---- items of lists
@@ -244,12 +245,11 @@ each-named types =
       ap (is_named (FieldAt (0 + found.0) ∷ leaf.0.steps)) found.4 ∙ named-field (0 + found.0) leaf.0.steps found.2 leaf.2,
     ))
 
--- ---- the first index
+-- ---- the indexes
 
 abbrev pub HaveIndexes : List Steps → List Leaf → Type 0
 HaveIndexes rows leaves =
-    (steps : Steps) (leaf : Leaf) (range : OrdinalRange) → Has rows steps → Has leaves leaf → is_named leaf.steps steps ≡ true → leaf.index ≡ Some range
-    → (index : ℤ) × (first_index steps ≡ Some index) × (range.first ≤ℤ index) × (index ≤ℤ range.last)
+    (steps : Steps) (leaf : Leaf) → Has rows steps → Has leaves leaf → is_named leaf.steps steps ≡ true → LieIn leaf.indexes (indexes_of steps)
 
 above-natural : (z : ℤ) (n : ℕ) → n < natural z → pos n <ℤ z
 above-natural (pos m) n less = omega (arith, ints, less)
@@ -336,24 +336,38 @@ own-field laid before fields leaf steps of_row of_leaf named =
       named = both.1;
     }
 
+-- an index of these values, if there are such, and those behind it
+lie-behind : (range : Option OrdinalRange) (ranges : List OrdinalRange) (index : ℤ) (indexes : List ℤ)
+    → ((own : OrdinalRange) → range ≡ Some own → (own.first ≤ℤ index) × (index ≤ℤ own.last)) → LieIn ranges indexes
+    → LieIn (index_before range ranges) (index ∷ indexes)
+lie-behind None ranges index indexes first more = tt
+lie-behind (Some range) ranges index indexes first more = let own = first range refl in (own.0, own.1, more)
+
 pub each-indexed : (types : List Form) (id : TypeId) → HaveIndexes (components_of types id) (leaves_of types id)
 each-indexed types =
     of_each types HaveIndexes
-    (λ own values steps leaf range of_row of_leaf named is.
-    absurd (none-some range (ap (λ (l : Leaf). l.index) (only (scalar own values) leaf of_leaf) ∙ is)))
-    (λ id index rows leaves each steps leaf range of_row of_leaf named is.
+    (λ own values steps leaf of_row of_leaf named.
+    subst (λ (l : Leaf). LieIn l.indexes (indexes_of steps)) (only (scalar own values) leaf of_leaf) tt)
+    (λ id index rows leaves each steps leaf of_row of_leaf named.
     let found = in-element rows (values_at (laid_before types id) index) of_row.0 steps of_row.1 in
-    let own = mapped-at (behind_elements (range_at (leafed_before types id) index)) leaves of_leaf.0 leaf of_leaf.1 in
+    let range = range_at (leafed_before types id) index in
+    let own = mapped-at (behind_elements range) leaves of_leaf.0 leaf of_leaf.1 in
     let few = take id.index types in
-    let ranged : range_of few index ≡ Some range = sym (range_leafed few index) ∙ ap (λ (l : Leaf). l.index) own.2 ∙ is in
     let values : Has (range_values (range_of few index)) found.0 =
     subst (λ (list : List ℤ). Has list found.0) (values_laid few index) found.3 in
-    let bounds = in-values (range_of few index) range found.0 ranged values in
-    (found.0, ap first_index found.2, bounds.0, bounds.1))
-    (λ laid before fields each steps leaf range of_row of_leaf named is.
+    let behind : is_named own.0.steps found.1 ≡ true =
+    subst (λ (l : Leaf). is_named l.steps (step.Element found.0 ∷ found.1) ≡ true) (sym own.2)
+    (subst (λ (s : Steps). is_named leaf.steps s ≡ true) found.2 named) in
+    let lie = lie-behind range own.0.indexes found.0 (indexes_of found.1)
+    (λ one is. in-values (range_of few index) one found.0 (sym (range_leafed few index) ∙ is) values)
+    (each found.1 own.0 found.4 (of_leaf.0, own.1) behind) in
+    subst (λ (l : Leaf). LieIn l.indexes (indexes_of steps)) own.2
+    (subst (λ (s : Steps). LieIn (behind_elements range own.0).indexes (indexes_of s)) (sym found.2) lie))
+    (λ laid before fields each steps leaf of_row of_leaf named.
     let own = own-field laid before fields leaf steps of_row of_leaf named in
-    let found = each own.field own.rest own.own range own.of_components own.of_leaves own.named (ap (λ (l : Leaf). l.index) own.leaf_is ∙ is) in
-    (found.0, ap first_index own.steps_are ∙ found.1, found.2, found.3))
+    let lie = each own.field own.rest own.own own.of_components own.of_leaves own.named in
+    subst (λ (l : Leaf). LieIn l.indexes (indexes_of steps)) own.leaf_is
+    (subst (λ (s : Steps). LieIn own.own.indexes (indexes_of s)) (sym own.steps_are) lie))
 
 -- ---- one leaf alone names a component
 

@@ -19,7 +19,7 @@ use Rattle.types.specs.declared.form.TypeForm.{TypeForm}
 use Rattle.types.specs.declared.form.TypeForm.TheVariants as kept
 use Rattle.types.specs.declared.form.TypeId.{TypeId}
 use Rattle.checker_rows.specs.declared.leaf.Way.{Way}
-use Rattle.checker_rows.specs.declared.leaf.Way.TheVariants.{Direct, Indexed}
+use Rattle.checker_rows.specs.declared.leaf.Way.TheVariants.{Direct, Once, Twice}
 use Rattle.checker_rows.specs.Leaves.{Leaf, Leafed, behind_elements, behind_field, entry_leaves, fields_leaves, form_leaves, leaf_next}
 use Rattle.checker_rows.specs.Leaves.{leafed, leaves_at, leaves_of}
 use Rattle.checker_rows.specs.Leaves.{range_at, scalar, scalar_leaves}
@@ -227,7 +227,11 @@ array_counted types id packed index element is =
 
 ranges_behind : (way : Way) (index : Option OrdinalRange) (leaf : Leaf) → ranges_on way (behind_elements index leaf) ≡ ranges_on (way_behind way index) leaf
 ranges_behind Direct index leaf = refl
-ranges_behind (Indexed first) index leaf = refl
+ranges_behind (Once None) index leaf = refl
+ranges_behind (Once (Some first)) None leaf = refl
+ranges_behind (Once (Some first)) (Some second) leaf = refl
+ranges_behind (Twice first None) index leaf = refl
+ranges_behind (Twice first (Some second)) index leaf = refl
 
 ranges_of_elements : (way : Way) (index : Option OrdinalRange) (leaves : List Leaf)
     → map (ranges_on way) (map (behind_elements index) leaves) ≡ map (ranges_on (way_behind way index)) leaves
@@ -237,8 +241,7 @@ ranges_of_elements way index (leaf ∷ leaves) =
     ∙ ap (λ l. ranges_on (way_behind way index) leaf ∷ l) (ranges_of_elements way index leaves)
 
 ranges_in_field : (way : Way) (position : ℕ) (leaf : Leaf) → ranges_on way (behind_field position leaf) ≡ ranges_on way leaf
-ranges_in_field Direct position leaf = refl
-ranges_in_field (Indexed first) position leaf = refl
+ranges_in_field way position leaf = refl
 
 ranges_of_field : (way : Way) (position : ℕ) (leaves : List Leaf) → map (ranges_on way) (map (behind_field position) leaves) ≡ map (ranges_on way) leaves
 ranges_of_field way position [] = refl

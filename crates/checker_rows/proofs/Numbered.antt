@@ -1,6 +1,6 @@
 -- Rows by their numbers: those of variables first, each by its root number, and behind them those of leaves.
 use Rattle.std.proofs.Common.{arith, ◌≡◌, ⊎_elim, ◌⊎◌, inl, inr, ◌∙◌, sym, ap, refl, subst, ℕ, zero, suc, ◌+◌, ◌-◌, ◌<◌, Bool, true, false, cond, nat_eq, ◌&&◌}
-use Rattle.std.proofs.Common.{List, [], ◌∷◌, length, map, filter, Some, None}
+use Rattle.std.proofs.Common.{List, [], ◌∷◌, length, map, filter, Some}
 use Rattle.std.proofs.lemmas.Bool.{and_parts, cases_lt, eq-eqb, eqb-true}
 use Rattle.std.proofs.lemmas.List.{length-append, length-map}
 use Rattle.std.proofs.lemmas.List.Elements.{All-contains, filter_passes, All-filter, All-contains_itself}
@@ -17,7 +17,7 @@ use Rattle.typed_tree.specs.declared.tree.Variable.{Variable}
 use Rattle.typed_tree.specs.WellFormed.{of_one}
 use Rattle.checker_rows.specs.Leaves.{Leaf, LeafStep, begins, leaves_of, scalar}
 use Rattle.checker_rows.specs.Rows.{Parts, Row, all_parts, is_structured_variable, is_under, leaf_rows, no_parts, numbers_where, own_part, own_row, own_rows}
-use Rattle.checker_rows.specs.Rows.{index_at, parts_of, rows_from, rows_of, rows_under, values_at, variable_rows}
+use Rattle.checker_rows.specs.Rows.{indexes_at, parts_of, row_indexes, rows_from, rows_of, rows_under, values_at, variable_rows}
 use Rattle.checker_rows.specs.View.{rows_count}
 use Rattle.checker_rows.proofs.Components.{Has, mapped-at, only}
 use Rattle.checker_rows.proofs.Variables.{length_variable, own-many, row_of, rows_before}
@@ -215,10 +215,10 @@ module _ (tree : Tree) where
       → values_at (rows_of tree) root ≡ scalar_range_of tree.types variable.type_id
   own-values root variable is = ap (option_and_then (λ (row : Row). row.leaf.values)) (own-row root variable is)
 
-  pub own-index : (root : ℕ) → root < length tree.variables.items → index_at (rows_of tree) root ≡ None
-  own-index root within =
+  pub own-indexes : (root : ℕ) → root < length tree.variables.items → indexes_at (rows_of tree) root ≡ []
+  own-indexes root within =
       let variable = some-at variables root within in
-      ap (option_and_then (λ (row : Row). row.leaf.index)) (own-row root variable.0 variable.1)
+      ap row_indexes (own-row root variable.0 variable.1)
 
   -- those of leaves stand behind them
   pub leaf-row : (k : ℕ) → slice_get (rows_of tree) (length tree.variables.items + k) ≡ slice_get (leaf_rows tree) k

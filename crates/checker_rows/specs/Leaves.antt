@@ -16,12 +16,12 @@ pub data LeafStep : Type 0 where
   FieldAt : (position : ℕ) → LeafStep
 
 -- a leaf: the steps to it, its type, if that is there, the values of its type, or those that the members of its sets
--- may have, and the values of the first index on the way to it, where there is one
+-- may have, and the values of each index on the way to it, the first one first
 pub record Leaf : Type 0 where
   pub steps : List LeafStep
   pub type_id : Option TypeId
   pub values : Option OrdinalRange
-  pub index : Option OrdinalRange
+  pub indexes : List OrdinalRange
 
 -- a type with its leaves
 pub record Leafed : Type 0 where
@@ -30,7 +30,7 @@ pub record Leafed : Type 0 where
 
 -- a scalar is its own leaf
 abbrev pub scalar : Option TypeId → Option OrdinalRange → Leaf
-scalar type_id values = record { steps = []; type_id = type_id; values = values; index = None }
+scalar type_id values = record { steps = []; type_id = type_id; values = values; indexes = [] }
 
 abbrev pub entry_leaves : Option Leafed → List Leaf
 entry_leaves None = scalar None None ∷ []
@@ -47,9 +47,15 @@ leaves_at entries id = entry_leaves (slice_get entries id.index)
 abbrev pub range_at : List Leafed → TypeId → Option OrdinalRange
 range_at entries id = entry_range (slice_get entries id.index)
 
+-- the values of an index before those behind it; where the tree doesn't tell them, none are told from there on
+abbrev pub index_before : Option OrdinalRange → List OrdinalRange → List OrdinalRange
+index_before None indexes = []
+index_before (Some range) indexes = range ∷ indexes
+
 -- a leaf behind the elements of an array, or behind a field
 abbrev pub behind_elements : Option OrdinalRange → Leaf → Leaf
-behind_elements index leaf = record leaf { steps = Elements ∷ leaf.steps; index = index }
+behind_elements index leaf =
+    record leaf { steps = Elements ∷ leaf.steps; indexes = index_before index leaf.indexes }
 
 abbrev pub behind_field : ℕ → Leaf → Leaf
 behind_field position leaf = record leaf { steps = FieldAt position ∷ leaf.steps }

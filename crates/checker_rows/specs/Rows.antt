@@ -1,7 +1,7 @@
 -- The rows of a program (ISO 7185:1990, 6.4.3, 6.5.3): one for each variable, by its root number, and behind them one
 -- for each leaf of each structured variable, one variable after another. A row is told by its number from 0. It says
 -- nothing of what the components of a row hold.
-use Rattle.std.specs.Prelude.{ℕ, suc, ℤ, Bool, false, not, ◌&&◌, List, [], ◌∷◌, ◌++◌, Option, Some, None}
+use Rattle.std.specs.Prelude.{ℕ, suc, ℤ, ◌≤ℤ◌, Bool, false, not, ◌&&◌, List, [], ◌∷◌, ◌++◌, Option, Some, None}
 use Rattle.std.specs.Prelude.{if◌then◌else◌, filter, is_some, map, flat_map, length, nat_eq, slice_get}
 use Rattle.std.specs.Option.{option_and_then}
 use Rattle.types.specs.Components.{components_of}
@@ -127,8 +127,19 @@ type_at rows number = option_and_then (λ row. row.leaf.type_id) (slice_get rows
 abbrev pub values_at : List Row → ℕ → Option OrdinalRange
 values_at rows number = option_and_then (λ row. row.leaf.values) (slice_get rows number)
 
+-- the values of each index on the way to its components, the first one first; and of the first two, if there are such
+abbrev pub row_indexes : Option Row → List OrdinalRange
+row_indexes None = []
+row_indexes (Some row) = row.leaf.indexes
+
+abbrev pub indexes_at : List Row → ℕ → List OrdinalRange
+indexes_at rows number = row_indexes (slice_get rows number)
+
 abbrev pub index_at : List Row → ℕ → Option OrdinalRange
-index_at rows number = option_and_then (λ row. row.leaf.index) (slice_get rows number)
+index_at rows number = slice_get (indexes_at rows number) 0
+
+abbrev pub inner_at : List Row → ℕ → Option OrdinalRange
+inner_at rows number = slice_get (indexes_at rows number) 1
 
 -- a type is one of sets (6.4.3.4)
 abbrev pub is_of_sets : List Form → Option TypeId → Bool
@@ -210,3 +221,16 @@ abbrev pub first_index : List Step → Option ℤ
 first_index [] = None
 first_index (step.Element index ∷ steps) = Some index
 first_index (step.Field position ∷ steps) = first_index steps
+
+-- the indexes among these steps, the first one first
+abbrev pub indexes_of : List Step → List ℤ
+indexes_of [] = []
+indexes_of (step.Element index ∷ steps) = index ∷ indexes_of steps
+indexes_of (step.Field position ∷ steps) = indexes_of steps
+
+-- indexes are of these values, the first index of the first, and so on; one behind them is any
+abbrev pub LieIn : List OrdinalRange → List ℤ → Type 0
+LieIn [] indexes = Unit {0}
+LieIn (range ∷ ranges) [] = ⊥
+LieIn (range ∷ ranges) (index ∷ indexes) =
+    (range.first ≤ℤ index) × (index ≤ℤ range.last) × LieIn ranges indexes

@@ -12,11 +12,11 @@ use Rattle.typed_tree.specs.declared.tree.Tree.{Tree}
 use Rattle.typed_tree.specs.declared.tree.Variable.{Variable}
 use Rattle.checker_rows.specs.declared.leaf.RowRanges.{RowRanges}
 use Rattle.checker_rows.specs.declared.leaf.Way.{Way}
-use Rattle.checker_rows.specs.declared.leaf.Way.TheVariants.{Direct, Indexed}
+use Rattle.checker_rows.specs.declared.leaf.Way.TheVariants.{Direct, Once, Twice}
 use Rattle.checker_rows.specs.declared.part.Part.{Part}
 use Rattle.checker_rows.specs.declared.span.Span.{Span}
 use Rattle.checker_rows.specs.declared.rows.NamedPart.{NamedPart}
-use Rattle.checker_rows.specs.Leaves.{Leaf, LeafStep, Elements, FieldAt, leafed, leaves_of, scalar}
+use Rattle.checker_rows.specs.Leaves.{Leaf, LeafStep, Elements, FieldAt, index_before, leafed, leaves_of, scalar}
 use Rattle.checker_rows.specs.Rows.{Named, rows_of, rows_under}
 
 -- the numbers of a span
@@ -34,12 +34,22 @@ IsAnswerOf tree root (Some named) (Some found) =
 -- ---- ranges
 
 abbrev pub ranges_of : Leaf → RowRanges
-ranges_of leaf = record { type_id = leaf.type_id; values = leaf.values; index = leaf.index }
+ranges_of leaf = record {
+  type_id = leaf.type_id;
+  values = leaf.values;
+  index = slice_get leaf.indexes 0;
+  inner = slice_get leaf.indexes 1;
+}
 
--- those of a leaf on a way from a variable
+-- the values of the indexes on a way from a variable before those behind it
+abbrev pub indexes_on : Way → List OrdinalRange → List OrdinalRange
+indexes_on Direct indexes = indexes
+indexes_on (Once index) indexes = index_before index indexes
+indexes_on (Twice first index) indexes = first ∷ index_before index indexes
+
+-- the ranges of a leaf on a way from a variable
 abbrev pub ranges_on : Way → Leaf → RowRanges
-ranges_on Direct leaf = ranges_of leaf
-ranges_on (Indexed index) leaf = record { type_id = leaf.type_id; values = leaf.values; index = index }
+ranges_on way leaf = ranges_of (record leaf { indexes = indexes_on way leaf.indexes })
 
 -- those of a variable's own row
 abbrev pub own_ranges : List Form → Variable → RowRanges
@@ -52,8 +62,10 @@ variable_ranges types variable =
 
 -- a way on to the elements of an array
 abbrev pub way_behind : Way → Option OrdinalRange → Way
-way_behind Direct index = Indexed index
-way_behind (Indexed first) index = Indexed first
+way_behind Direct index = Once index
+way_behind (Once None) index = Once None
+way_behind (Once (Some first)) index = Twice first index
+way_behind (Twice first inner) index = Twice first inner
 
 -- ---- how many there are
 

@@ -16,17 +16,20 @@ pub(crate) struct RowRanges {
     pub type_id: Option<TypeId>,
     /// The values of its components, or those that the members of these may have.
     pub values: Option<OrdinalRange>,
-    /// The values of the first index on the way to them.
+    /// The values of the first index on the way to them, and of the second.
     pub index: Option<OrdinalRange>,
+    pub inner: Option<OrdinalRange>,
 }
 
-/// The way from a variable to a part of it.
+/// The way from a variable to a part of it; the values of two indexes on it are kept.
 #[derive(Clone, Copy)]
 pub(crate) enum Way {
     /// By fields alone.
     Direct,
-    /// The first index has these values.
-    Indexed(Option<OrdinalRange>),
+    /// By one index, or by more, if the tree doesn't tell the values of the first.
+    Once(Option<OrdinalRange>),
+    /// By two or more.
+    Twice(OrdinalRange, Option<OrdinalRange>),
 }
 
 impl Way {
@@ -35,8 +38,10 @@ impl Way {
         ensures { result ≡ way_behind self index }
     {
         match self {
-            Way::Direct => Way::Indexed(index),
-            Way::Indexed(first) => Way::Indexed(first),
+            Way::Direct => Way::Once(index),
+            Way::Once(None) => self,
+            Way::Once(Some(first)) => Way::Twice(first, index),
+            Way::Twice(_, _) => self,
         }
     }
 
@@ -44,17 +49,16 @@ impl Way {
     fn scalar(self, type_id: Option<TypeId>, values: Option<OrdinalRange>) -> RowRanges
         ensures { result ≡ ranges_on self (scalar type_id values) }
     {
-        match self {
-            Way::Direct => RowRanges {
-                type_id,
-                values,
-                index: None,
-            },
-            Way::Indexed(index) => RowRanges {
-                type_id,
-                values,
-                index,
-            },
+        let (index, inner) = match self {
+            Way::Direct => (None, None),
+            Way::Once(first) => (first, None),
+            Way::Twice(first, second) => (Some(first), second),
+        };
+        RowRanges {
+            type_id,
+            values,
+            index,
+            inner,
         }
     }
 }

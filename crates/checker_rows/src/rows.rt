@@ -6,7 +6,7 @@ ghost use Rattle.typed_tree.specs.Accesses.{origin_of, steps_of};
 ghost use Rattle.domain.specs.Facts.{said_path};
 ghost use Rattle.checker_rows.specs.Leaves.{Elements, FieldAt};
 ghost use Rattle.checker_rows.specs.Limits.{row_limits};
-ghost use Rattle.checker_rows.specs.Rows.{holds_sets, index_at, is_ordinal_variable, is_structured_variable};
+ghost use Rattle.checker_rows.specs.Rows.{holds_sets, index_at, inner_at, is_ordinal_variable, is_structured_variable};
 ghost use Rattle.checker_rows.specs.Rows.{leaf_step, part_named, path_step, rows_accessed, rows_of, rows_under};
 ghost use Rattle.checker_rows.specs.Rows.{type_at, values_at};
 ghost use Rattle.checker_rows.specs.View.{AreKept, IsAnswerOf, end_of, first_under, next_part, numbers, own_ranges};
@@ -120,6 +120,13 @@ impl<'a> Rows<'a> {
         ensures { result ≡ index_at (rows_of self.now) row }
     {
         self.rows.get(row)?.index
+    }
+
+    /// Those of the second, if there is one.
+    pub fn inner(&self, row: usize) -> Option<OrdinalRange>
+        ensures { result ≡ inner_at (rows_of self.now) row }
+    {
+        self.rows.get(row)?.inner
     }
 
     /// The values of the type of a row's components, or those of the members of its sets.
@@ -369,6 +376,7 @@ fn own_ranges(types: &TypeTable, variable: Variable) -> RowRanges
         type_id: Some(variable.type_id),
         values: types.scalar_range(variable.type_id),
         index: None,
+        inner: None,
     }
 }
 

@@ -1,6 +1,6 @@
 -- Claims that a state gives hold where it holds.
 use Rattle.std.proofs.Common.{arith, ◌≡◌, ⊎_elim, ◌∙◌, sym, ap, refl, subst, ℕ, ℤ, pos, ◌+ℤ◌, ◌≤ℤ◌, true, ◌&&◌, ◌||◌, nat_eq, nat_lt}
-use Rattle.std.proofs.Common.{List, [], ◌∷◌, Option, Some, None}
+use Rattle.std.proofs.Common.{List, [], ◌∷◌, drop, Option, Some, None}
 use Rattle.std.specs.List.{list_any}
 use Rattle.std.proofs.lemmas.Int.{ints}
 use Rattle.std.proofs.lemmas.Bool.{and_parts, eqb-true, ltb-true, or_cases}
@@ -8,13 +8,14 @@ use Rattle.types.specs.declared.form.OrdinalRange.{OrdinalRange}
 use Rattle.types.specs.declared.form.Step.{Step}
 use Rattle.types.specs.declared.form.Step.TheVariants as step
 use Rattle.meaning.specs.Store.{Environment, Store}
-use Rattle.checker_rows.specs.Rows.{Parts, first_index}
-use Rattle.checker_state.specs.Bounds.{Bound, plus}
-use Rattle.checker_state.specs.State.{Claim, Dead, Defined, Facts, Held, Holds as Holding, Live, Ordered, Range, Span, State, Stretch, Stretched, Table, all_of}
+use Rattle.checker_rows.specs.Rows.{LieIn, Parts, first_index, indexes_of}
+use Rattle.checker_state.specs.Bounds.{Bound, constant, plus}
+use Rattle.checker_state.specs.State.{Claim, Dead, Defined, Facts, Held, Holds as Holding, Live, Ordered, Range, Span, State, Stretch, Stretched, Table}
+use Rattle.checker_state.specs.State.{all_indexes, all_of}
 use Rattle.checker_state.specs.State.{covers, gives, gives_claim, gives_stretch, has_number, has_span, has_value, has_values, have_spans, have_values, is_empty}
 use Rattle.checker_state.specs.State.{is_spanned, is_whole, le, row_at, state_gives}
 use Rattle.checker_state.specs.Holds.{AreBounds, AreDefined, FactsHold, HasNumber, HasValue, HeldHolds, Holds, IsBound, IsBoundBy, IsWhole, LieBetween, Moment}
-use Rattle.checker_state.specs.Holds.{HoldNumbers, Numbers, StateHolds, StretchHolds, indexes_of, moment}
+use Rattle.checker_state.specs.Holds.{HoldNumbers, IndexesLie, IsOfRow, HasComponent, Numbers, StateHolds, StretchHolds, moment}
 use Rattle.checker_state.specs.Knows.{AreRows, Shows}
 use Rattle.checker_state.specs.Laws.{GivenHolds}
 use Rattle.checker_state.proofs.Bounds.{IsTold, le-is, lies_below-is, told-of}
@@ -30,18 +31,40 @@ first-of [] index is = absurd (cc)
 first-of (step.Element i ∷ steps) index is = (indexes_of steps, ap (λ (n : ℤ). n ∷ indexes_of steps) (let same : i ≡ index = cc in same))
 first-of (step.Field position ∷ steps) index is = first-of steps index is
 
+-- the first index is of the first values
+pub first-lies : (range : OrdinalRange) (ranges : List OrdinalRange) (steps : List Step) → LieIn (range ∷ ranges) (indexes_of steps)
+    → (index : ℤ) × (first_index steps ≡ Some index) × (range.first ≤ℤ index) × (index ≤ℤ range.last)
+first-lies range ranges [] lie = absurd lie
+first-lies range ranges (step.Element index ∷ steps) lie = (index, refl, lie.0, lie.1)
+first-lies range ranges (step.Field position ∷ steps) lie = first-lies range ranges steps lie
+
+-- those behind the first
+lie-behind : (ranges : List OrdinalRange) (index : ℤ) (indexes : List ℤ) → LieIn ranges (index ∷ indexes) → LieIn (drop 1 ranges) indexes
+lie-behind [] index indexes lie = tt
+lie-behind (range ∷ ranges) index indexes lie = lie.2
+
 module _ (rows : List Parts) (m : Moment) (known : Facts) (told : IsTold rows m known) where
-  -- indexes that lie between the numbers of spans lie between those of spans that have them
-  spans-have : (wanted held : List Span) (between around : List Numbers) (indexes : List ℤ) → have_spans known wanted held ≡ true
-      → AreBounds m wanted between → AreBounds m held around → LieBetween between indexes → LieBetween around indexes
-  spans-have wanted [] between [] indexes is inner outer lie = tt
-  spans-have wanted [] between (one ∷ around) indexes is inner outer lie = absurd outer
-  spans-have wanted (span ∷ held) between [] indexes is inner outer lie = absurd outer
-  spans-have [] (span ∷ held) between (own ∷ around) indexes is inner outer lie = absurd (cc)
-  spans-have (one ∷ wanted) (span ∷ held) [] (own ∷ around) indexes is inner outer lie = absurd inner
-  spans-have (one ∷ wanted) (span ∷ held) (first ∷ between) (own ∷ around) [] is inner outer lie = absurd lie
-  spans-have (one ∷ wanted) (span ∷ held) (first ∷ between) (own ∷ around) (index ∷ indexes) is inner outer lie =
-      let parts = and_parts (has_span known one span) (have_spans known wanted held) is in
+  -- indexes of some values that lie between the numbers of spans lie between those of spans that have them
+  spans-have : (ranges : List OrdinalRange) (wanted held : List Span) (between around : List Numbers) (indexes : List ℤ)
+      → have_spans known ranges wanted held ≡ true → AreBounds m wanted between → AreBounds m held around → LieIn ranges indexes
+      → LieBetween between indexes → LieBetween around indexes
+  spans-have ranges wanted [] between [] indexes is inner outer inside lie = tt
+  spans-have ranges wanted [] between (one ∷ around) indexes is inner outer inside lie = absurd outer
+  spans-have ranges wanted (span ∷ held) between [] indexes is inner outer inside lie = absurd outer
+  spans-have [] [] (span ∷ held) between (own ∷ around) indexes is inner outer inside lie = absurd (cc)
+  spans-have (range ∷ ranges) [] (span ∷ held) between (own ∷ around) [] is inner outer inside lie = absurd inside
+  spans-have (range ∷ ranges) [] (span ∷ held) between (own ∷ around) (index ∷ indexes) is inner outer inside lie =
+      let parts = and_parts (has_span known (all_indexes range) span) (have_spans known ranges [] held) is in
+      let both = and_parts (le known span.first (constant range.first)) (le known (constant range.last) span.last) parts.0 in
+      let below : own.first ≤ℤ range.first = le-is rows m known told span.first (constant range.first) own.first range.first outer.0 refl both.0 in
+      let above : range.last ≤ℤ own.last = le-is rows m known told (constant range.last) span.last range.last own.last refl outer.1 both.1 in
+      let low = inside.0 in
+      let high = inside.1 in
+      (omega (arith, ints), omega (arith, ints), spans-have ranges [] held [] around indexes parts.1 tt outer.2 inside.2 tt)
+  spans-have ranges (one ∷ wanted) (span ∷ held) [] (own ∷ around) indexes is inner outer inside lie = absurd inner
+  spans-have ranges (one ∷ wanted) (span ∷ held) (first ∷ between) (own ∷ around) [] is inner outer inside lie = absurd lie
+  spans-have ranges (one ∷ wanted) (span ∷ held) (first ∷ between) (own ∷ around) (index ∷ indexes) is inner outer inside lie =
+      let parts = and_parts (has_span known one span) (have_spans known (drop 1 ranges) wanted held) is in
       let both = and_parts (le known span.first one.first) (le known one.last span.last) parts.0 in
       let below : own.first ≤ℤ first.first = le-is rows m known told span.first one.first own.first first.first outer.0 inner.0 both.0 in
       let above : first.last ≤ℤ own.last = le-is rows m known told one.last span.last first.last own.last inner.1 outer.1 both.1 in
@@ -49,7 +72,7 @@ module _ (rows : List Parts) (m : Moment) (known : Facts) (told : IsTold rows m 
       let high = lie.1 in (
         omega (arith, ints),
         omega (arith, ints),
-        spans-have wanted held between around indexes parts.1 inner.2 outer.2 lie.2,
+        spans-have (drop 1 ranges) wanted held between around indexes parts.1 inner.2 outer.2 (lie-behind ranges index indexes inside) lie.2,
       )
 
   -- no index lies in spans of which one is empty
@@ -68,17 +91,20 @@ module _ (rows : List Parts) (m : Moment) (known : Facts) (told : IsTold rows m 
       (λ later. none-between spans numbers indexes later are.2 lie.2) (or_cases (is_empty known span) (list_any (is_empty known) spans) is)
 
   -- the components of a stretch that what is held covers
-  covered : (wanted : Stretch) (numbers : List Numbers) → AreBounds m wanted.spans numbers → list_any (covers known wanted) known.held ≡ true
-      → AreDefined rows wanted.row numbers m
-  covered wanted numbers are is = let found = any-in (covers known wanted) known.held is in by found.0 (told.held found.0 found.1) found.2
+  covered : (ranges : List OrdinalRange) (wanted : Stretch) (numbers : List Numbers) → IndexesLie rows wanted.row ranges
+      → AreBounds m wanted.spans numbers → list_any (covers known ranges wanted) known.held ≡ true → AreDefined rows wanted.row numbers m
+  covered ranges wanted numbers lies are is =
+      let found = any-in (covers known ranges wanted) known.held is in by found.0 (told.held found.0 found.1) found.2
     where
-      by : (one : Held) → HeldHolds rows one m → covers known wanted one ≡ true → AreDefined rows wanted.row numbers m
+      by : (one : Held) → HeldHolds rows one m → covers known ranges wanted one ≡ true → AreDefined rows wanted.row numbers m
       by (Ordered root other number) holds is = absurd (cc)
       by (Stretched stretch) (around, around_are, each) is =
-          let parts = and_parts (nat_eq wanted.row stretch.row) (have_spans known wanted.spans stretch.spans) is in
-          subst (λ row. AreDefined rows row numbers m) (sym (eqb-true wanted.row stretch.row parts.0))
-          (λ steps index of_row first lie. each steps index of_row first
-          (spans-have wanted.spans stretch.spans numbers around (indexes_of steps) parts.1 are around_are lie))
+          let parts = and_parts (nat_eq wanted.row stretch.row) (have_spans known ranges wanted.spans stretch.spans) is in
+          let same : wanted.row ≡ stretch.row = eqb-true wanted.row stretch.row parts.0 in
+          λ steps index of_row first lie.
+          subst (λ row. HasComponent rows m row steps) (sym same)
+          (each steps index (subst (λ row. IsOfRow rows row steps) same of_row) first
+          (spans-have ranges wanted.spans stretch.spans numbers around (indexes_of steps) parts.1 are around_are (lies steps of_row) lie))
 
 -- ---- what is given
 
@@ -122,25 +148,25 @@ module _ (rows : List Parts) (table : Table) (are : AreRows rows table) (env : E
       let rest = values-are spans parts.1 in
       (record { first = first.0; last = last.0 } ∷ rest.0, (first.1, last.1, rest.1))
 
-  spanned-whole : (row : ℕ) (index : Option OrdinalRange) → table.index row ≡ index → is_spanned known row index ≡ true → IsWhole rows row m
-  spanned-whole row None index_is is = absurd (cc)
-  spanned-whole row (Some range) index_is is = λ steps of_row.
-      let (index, first, low, high) = are.indexes row range index_is steps of_row in
+  spanned-whole : (row : ℕ) (ranges : List OrdinalRange) → IndexesLie rows row ranges → is_spanned known row ranges ≡ true → IsWhole rows row m
+  spanned-whole row [] lies is = absurd (cc)
+  spanned-whole row (range ∷ ranges) lies is = λ steps of_row.
+      let (index, first, low, high) = first-lies range ranges steps (lies steps of_row) in
       let all = first-of steps index first in
-      covered rows m known told (all_of row range) (record { first = range.first; last = range.last } ∷ []) (refl, refl, tt) is steps index of_row first
-      (subst (LieBetween (record { first = range.first; last = range.last } ∷ [])) (sym all.1) (low, high, tt))
+      covered rows m known told (range ∷ ranges) (all_of row range) (record { first = range.first; last = range.last } ∷ []) lies (refl, refl, tt) is
+      steps index of_row first (subst (LieBetween (record { first = range.first; last = range.last } ∷ [])) (sym all.1) (low, high, tt))
 
   -- each component of a row
   pub whole-holds : (row : ℕ) → is_whole table known row ≡ true → IsWhole rows row m
   whole-holds row is =
-      ⊎_elim (λ own. holds.defined row own) (λ spanned. spanned-whole row (table.index row) refl spanned)
-      (or_cases (row_at known row).is_defined (is_spanned known row (table.index row)) is)
+      ⊎_elim (λ own. holds.defined row own) (λ spanned. spanned-whole row (table.indexes row) (are.indexes row) spanned)
+      (or_cases (row_at known row).is_defined (is_spanned known row (table.indexes row)) is)
 
   stretch-given : (stretch : Stretch) → gives_stretch table known stretch ≡ true → StretchHolds rows stretch m
   stretch-given stretch is =
       let empty = list_any (is_empty known) stretch.spans in
       let whole = is_whole table known stretch.row in
-      let any = list_any (covers known stretch) known.held in
+      let any = list_any (covers known (table.indexes stretch.row) stretch) known.held in
       let parts = and_parts (have_values table (Live known) stretch.spans) (empty || (whole || any)) is in
       let values = values-are stretch.spans parts.0 in (
         values.0,
@@ -148,7 +174,9 @@ module _ (rows : List Parts) (table : Table) (are : AreRows rows table) (env : E
         λ steps index of_row first lie.
             ⊎_elim (λ none. absurd (none-between rows m known told stretch.spans values.0 (indexes_of steps) none values.1 lie))
             (λ rest. ⊎_elim (λ all. whole-holds stretch.row all steps of_row)
-            (λ some. covered rows m known told stretch values.0 values.1 some steps index of_row first lie) (or_cases whole any rest))
+            (λ some.
+            covered rows m known told (table.indexes stretch.row) stretch values.0 (are.indexes stretch.row) values.1 some steps index of_row first lie)
+            (or_cases whole any rest))
             (or_cases empty (whole || any) parts.1),
       )
 

@@ -2,7 +2,7 @@
 use Rattle.std.proofs.Common.{refl, []}
 use Rattle.typed_tree.specs.declared.tree.Tree.{Tree}
 use Rattle.checker_rows.specs.Rows.{all_parts}
-use Rattle.checker_rows.proofs.Accessed.{components-inner, indexes-are, rows-apart}
+use Rattle.checker_rows.proofs.Accessed.{components-inner, indexes-lie, rows-apart}
 use Rattle.checker_rows.proofs.Numbered.{own-parts}
 use Rattle.checker_state.specs.State.{table_of}
 use Rattle.checker_state.specs.Knows.{AreRows}
@@ -12,5 +12,5 @@ rows-told tree = record {
   own = own-parts tree;
   inner = λ row beyond of_row. components-inner tree row [] beyond of_row refl;
   apart = rows-apart tree;
-  indexes = λ row range is steps of_row. indexes-are tree row steps range of_row is;
+  indexes = indexes-lie tree;
 }

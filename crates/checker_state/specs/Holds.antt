@@ -11,8 +11,7 @@ use Rattle.meaning.specs.declared.store.Value.TheVariants.{Members, Number}
 use Rattle.meaning.specs.Store.{Place, Store, Environment, stored, overlap}
 use Rattle.types.specs.declared.form.OrdinalRange.{OrdinalRange}
 use Rattle.types.specs.declared.form.Step.{Step}
-use Rattle.types.specs.declared.form.Step.TheVariants as step
-use Rattle.checker_rows.specs.Rows.{Parts, first_index, no_parts}
+use Rattle.checker_rows.specs.Rows.{LieIn, Parts, first_index, indexes_of, no_parts}
 use Rattle.checker_state.specs.Bounds.{Bound}
 use Rattle.checker_state.specs.State.{Claim, Dead, Defined, Facts, Held, Holds as Holding, Live, Ordered, Range, Span}
 use Rattle.checker_state.specs.State.{State, Stretch, Stretched, row_at}
@@ -65,12 +64,6 @@ pub record Numbers : Type 0 where
   pub first : ℤ
   pub last : ℤ
 
--- the indexes among the steps to a component, the first one first
-abbrev pub indexes_of : List Step → List ℤ
-indexes_of [] = []
-indexes_of (step.Element index ∷ steps) = index ∷ indexes_of steps
-indexes_of (step.Field position ∷ steps) = indexes_of steps
-
 -- what numbers the bounds of spans are
 abbrev pub AreBounds : Moment → List Span → List Numbers → Type 0
 AreBounds moment [] [] = Unit {0}
@@ -114,11 +107,9 @@ module _ (rows : List Parts) where
   StretchHolds stretch moment =
       (numbers : List Numbers) × AreBounds moment stretch.spans numbers × AreDefined stretch.row numbers moment
 
-  -- the first index on the way to each component of a row is one of these values
-  abbrev pub IndexesLie : ℕ → OrdinalRange → Type 0
-  IndexesLie row range =
-      (steps : List Step) → IsOfRow row steps
-      → (index : ℤ) × (first_index steps ≡ Some index) × (range.first ≤ℤ index) × (index ≤ℤ range.last)
+  -- the indexes on the way to each component of a row are of these values
+  abbrev pub IndexesLie : ℕ → List OrdinalRange → Type 0
+  IndexesLie row ranges = (steps : List Step) → IsOfRow row steps → LieIn ranges (indexes_of steps)
 
   -- what is held is so
   abbrev pub HeldHolds : Held → Moment → Type 0

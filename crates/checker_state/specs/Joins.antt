@@ -19,6 +19,7 @@ module _ (table : Table) where
   joined_facts one other = record {
     rows = map (joined_row one other) (range_with_len 0 (max (length one.rows) (length other.rows)));
     held = with_more (filter (gives table one) other.held) (filter (gives table other) one.held);
+    rules = one.rules;
   }
 
   -- what is known behind two ways that meet; one that no run takes adds nothing

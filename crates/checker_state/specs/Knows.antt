@@ -8,16 +8,15 @@ use Rattle.domain.specs.Interval.{Interval}
 use Rattle.meaning.specs.declared.store.Value.{Value}
 use Rattle.meaning.specs.declared.store.Value.TheVariants.{Number}
 use Rattle.meaning.specs.Store.{Environment, Store}
-use Rattle.types.specs.declared.form.OrdinalRange.{OrdinalRange}
 use Rattle.types.specs.declared.form.Step.{Step}
-use Rattle.checker_rows.specs.Rows.{Parts, no_parts}
+use Rattle.checker_rows.specs.Rows.{Parts, indexes_of, no_parts}
 use Rattle.checker_state.specs.Bounds.{Bound}
 use Rattle.checker_state.specs.State.{Dead, Facts, Held, Live, State, Table, row_at}
 use Rattle.checker_state.specs.Changes.{bound_rests_on, rests_on}
 use Rattle.checker_state.specs.Loops.{is_among}
 use Rattle.checker_state.specs.Stores.{Index, Reach}
 use Rattle.checker_state.specs.Holds.{HasComponent, HasValue, IndexesLie, IsBound, IsIn, IsOfRow, Moment, StateHolds}
-use Rattle.checker_state.specs.Holds.{component_at, indexes_of, moment, value_at}
+use Rattle.checker_state.specs.Holds.{component_at, moment, value_at}
 
 -- an environment shows none but so many variables
 pub record Shows (variables : ℕ) (env : Environment) : Type 0 where
@@ -97,14 +96,14 @@ IsReached env store reach steps =
 -- with the components of each row
 module _ (rows : List Parts) where
   -- the rows are as it is told: the first are those of variables, each of which has its own; no row behind them has a
-  -- variable as a whole; no component is of two rows; and the first indexes lie where that is told
+  -- variable as a whole; no component is of two rows; and the indexes lie where that is told
   pub record AreRows (table : Table) : Type 0 where
     pub own : (root : ℕ) → root < table.variables
         → slice_index_or rows root no_parts ≡ record { root = root; components = [] ∷ [] }
     pub inner : (row : ℕ) → table.variables ≤ row → IsOfRow rows row [] → ⊥
     pub apart : (row other : ℕ) (steps : List Step) → IsOfRow rows row steps → IsOfRow rows other steps
         → (slice_index_or rows row no_parts).root ≡ (slice_index_or rows other no_parts).root → row ≡ other
-    pub indexes : (row : ℕ) (range : OrdinalRange) → table.index row ≡ Some range → IndexesLie rows row range
+    pub indexes : (row : ℕ) → IndexesLie rows row (table.indexes row)
 
   -- a state holds, in an environment that shows none but so many variables
   pub record Knows (roots : ℕ) (env : Environment) (state : State) (store : Store) : Type 0 where

@@ -3,7 +3,7 @@
 -- variables, and stretches of rows that are defined; and which facts that gives. It does not say how such a state comes
 -- about, nor what it means for a run.
 use Rattle.std.specs.Prelude.{ℕ, ℤ, pos, ◌+ℤ◌, int_le, Bool, true, false, not, ◌&&◌, ◌||◌, List, [], ◌∷◌, Option}
-use Rattle.std.specs.Prelude.{Some, None, if◌then◌else◌, length, nat_eq, nat_lt, slice_index_or, slice_set}
+use Rattle.std.specs.Prelude.{Some, None, if◌then◌else◌, drop, length, nat_eq, nat_lt, slice_index_or, slice_set}
 use Rattle.std.specs.List.{list_any}
 use Rattle.std.specs.Cmp.Lexicographic.{slice_cmp}
 use Rattle.std.specs.Ordering.{int_cmp, nat_cmp, ordering_then}
@@ -11,8 +11,9 @@ use Rattle.std.specs.declared.cmp.Ordering.{Ordering}
 use Rattle.std.specs.declared.cmp.Ordering.TheVariants.{Less, Equal, Greater}
 use Rattle.types.specs.declared.form.OrdinalRange.{OrdinalRange}
 use Rattle.typed_tree.specs.declared.tree.Tree.{Tree}
-use Rattle.checker_rows.specs.Rows.{index_at, is_ordinal_variable, rows_of}
+use Rattle.checker_rows.specs.Rows.{indexes_at, is_ordinal_variable, rows_of}
 use Rattle.domain.specs.Interval.{Interval, is_included, is_vacant, vacant}
+use Rattle.domain.specs.declared.versions.Version.{Version}
 use Rattle.checker_state.specs.Bounds.{Bound, bound_order, constant, is_at_most, is_variable, plus, raised_bound}
 
 -- ---- states
@@ -38,10 +39,12 @@ pub data Held : Type 0 where
   Stretched : Stretch → Held
   Ordered : (root other : ℕ) → ℤ → Held
 
--- what is known of each row, by its number, and what is held, in its order, each once
+-- what is known of each row, by its number, and what is held, in its order, each once; and the version of certificates
+-- by whose rules it is known
 pub record Facts : Type 0 where
   pub rows : List RowState
   pub held : List Held
+  pub rules : Version
 
 -- no run comes here, or what is known where one does
 pub data State : Type 0 where
@@ -56,8 +59,8 @@ abbrev pub row_at : Facts → ℕ → RowState
 row_at known row = slice_index_or known.rows row no_row
 
 -- of rows whose components have these values, nothing else is known
-abbrev pub of_types : List RowState → State
-of_types rows = Live (record { rows = rows; held = [] })
+abbrev pub of_types : Version → List RowState → State
+of_types rules rows = Live (record { rows = rows; held = []; rules = rules })
 
 -- no run comes here
 abbrev pub is_dead : State → Bool
@@ -179,43 +182,48 @@ is_empty known span = lies_below known span.last span.first
 abbrev pub has_span : Facts → (wanted held : Span) → Bool
 has_span known wanted held = le known held.first wanted.first && le known wanted.last held.last
 
--- spans have all that others have: an index behind the last of them is any
-abbrev pub have_spans : Facts → (wanted held : List Span) → Bool
-have_spans known wanted [] = true
-have_spans known [] (span ∷ held) = false
-have_spans known (one ∷ wanted) (span ∷ held) = has_span known one span && have_spans known wanted held
-
--- what is held has all of a stretch
-abbrev pub covers : Facts → Stretch → Held → Bool
-covers known wanted (Stretched stretch) =
-    nat_eq wanted.row stretch.row && have_spans known wanted.spans stretch.spans
-covers known wanted (Ordered root other number) = false
-
 -- the span of all values of an index
 abbrev pub all_indexes : OrdinalRange → Span
 all_indexes range = record { first = constant range.first; last = constant range.last }
+
+-- spans have all that others have, of indexes that are of these values: an index behind the last of them is any, so
+-- where what is wanted ends and what is held goes on, that has to have all values of the index
+abbrev pub have_spans : Facts → List OrdinalRange → (wanted held : List Span) → Bool
+have_spans known indexes wanted [] = true
+have_spans known indexes (one ∷ wanted) (span ∷ held) =
+    has_span known one span && have_spans known (drop 1 indexes) wanted held
+have_spans known [] [] (span ∷ held) = false
+have_spans known (range ∷ indexes) [] (span ∷ held) =
+    has_span known (all_indexes range) span && have_spans known indexes [] held
+
+-- what is held has all of a stretch of a row whose indexes are of these values
+abbrev pub covers : Facts → List OrdinalRange → Stretch → Held → Bool
+covers known indexes wanted (Stretched stretch) =
+    nat_eq wanted.row stretch.row && have_spans known indexes wanted.spans stretch.spans
+covers known indexes wanted (Ordered root other number) = false
 
 -- the stretch of all first indexes of a row
 abbrev pub all_of : ℕ → OrdinalRange → Stretch
 all_of row range = record { row = row; spans = all_indexes range ∷ [] }
 
--- what is held has all first indexes of a row, if it has one
-abbrev pub is_spanned : Facts → ℕ → Option OrdinalRange → Bool
-is_spanned known row None = false
-is_spanned known row (Some range) = list_any (covers known (all_of row range)) known.held
+-- what is held has all first indexes of a row whose indexes are of these values, if it has any
+abbrev pub is_spanned : Facts → ℕ → List OrdinalRange → Bool
+is_spanned known row [] = false
+is_spanned known row (range ∷ indexes) =
+    list_any (covers known (range ∷ indexes) (all_of row range)) known.held
 
 -- what is told of the rows of a program: how many variables have one of their own, which come first; which of these
--- variables are ordinals; and where the first index on the way to the components of each row lies, if there is one
+-- variables are ordinals; and the values of each index on the way to the components of each row, the first one first
 pub record Table : Type 0 where
   pub variables : ℕ
   pub ordinal : ℕ → Bool
-  pub index : ℕ → Option OrdinalRange
+  pub indexes : ℕ → List OrdinalRange
 
 abbrev pub table_of : Tree → Table
 table_of tree = record {
   variables = length tree.variables.items;
   ordinal = is_ordinal_variable tree;
-  index = index_at (rows_of tree);
+  indexes = indexes_at (rows_of tree);
 }
 
 module _ (table : Table) where
@@ -244,7 +252,7 @@ module _ (table : Table) where
 
   -- each component of a row is known to be defined: by the row, or since all its first indexes are held
   abbrev pub is_whole : Facts → ℕ → Bool
-  is_whole known row = (row_at known row).is_defined || is_spanned known row (table.index row)
+  is_whole known row = (row_at known row).is_defined || is_spanned known row (table.indexes row)
 
   -- a stretch is known to be defined: its bounds have values, and no index lies in it, or all of its row is defined, or
   -- what is held has all of it
@@ -252,7 +260,7 @@ module _ (table : Table) where
   gives_stretch known stretch =
       have_values (Live known) stretch.spans
       && (list_any (is_empty known) stretch.spans
-      || (is_whole known stretch.row || list_any (covers known stretch) known.held))
+      || (is_whole known stretch.row || list_any (covers known (table.indexes stretch.row) stretch) known.held))
 
   -- what is known gives what may be held: of an order that both variables are defined, and that the first is at most
   -- the other plus the number

@@ -1,7 +1,7 @@
 -- What is known after values were stored to components of structured variables (ISO 7185:1990, 6.4.3, 6.5.3). It does
 -- not say which components an access leads to.
 use Rattle.std.specs.Prelude.{ℕ, ℤ, Bool, true, false, ◌||◌, List, [], ◌∷◌, Option, Some, None, if◌then◌else◌, filter}
-use Rattle.std.specs.Prelude.{nat_eq}
+use Rattle.std.specs.Prelude.{nat_eq, slice_get}
 use Rattle.std.specs.List.{filter_map}
 use Rattle.types.specs.declared.form.OrdinalRange.{OrdinalRange}
 use Rattle.domain.specs.Interval.{Interval, joined}
@@ -71,7 +71,7 @@ module _ (table : Table) where
   gives_index state row one = gives_form state row one.form || gives_some state (range_stretch row one.range)
 
   abbrev pub gives_indexes : State → ℕ → List Index → Bool
-  gives_indexes state row [] = state_gives table state (all_of_row (table.index row) row)
+  gives_indexes state row [] = state_gives table state (all_of_row (slice_get (table.indexes row) 0) row)
   gives_indexes state row (one ∷ more) = gives_index state row one
 
   -- what an access reaches in a row is defined

@@ -4,7 +4,8 @@ ghost use Rattle.std.specs.Cmp.Lexicographic.{slice_cmp};
 ghost use Rattle.checker_state.specs.Bounds.{plus};
 ghost use Rattle.checker_state.specs.Changes.{all_with_bounds, changed_order, in_place, ordered, raised, raised_number};
 ghost use Rattle.checker_state.specs.Changes.{stretch_of, unless_resting, with_bounds};
-ghost use Rattle.checker_state.specs.State.{Ordered, Stretched, all_of, held_order, says_at_most, span_order};
+ghost use Rattle.checker_state.specs.State.{Ordered, Stretched, all_indexes, all_of, held_order, says_at_most};
+ghost use Rattle.checker_state.specs.State.{span_order};
 ghost use Rattle.checker_state.specs.Stores.{at_index, stretch_between};
 ghost use Rattle.checker_state.specs.Terms.{IsWithin};
 ghost use Rattle.checker_state.specs.View.{bound_by, held_by, inner_spans, said_bound, said_form, said_held};
@@ -62,6 +63,16 @@ pub enum Claim {
 }
 
 impl Span {
+    /// That of all values of an index.
+    pub fn all(range: OrdinalRange) -> Span
+        ensures { said_span result ≡ all_indexes range }
+    {
+        Span {
+            first: Bound::constant(range.first),
+            last: Bound::constant(range.last),
+        }
+    }
+
     // What becomes of it.
     fn by(self, how: Rebinding) -> Option<Span>
         ensures { said_span_form result ≡ with_bounds (bound_by how) (said_span self) }
@@ -101,10 +112,7 @@ impl Stretch {
     {
         Stretch {
             row,
-            span: Span {
-                first: Bound::constant(range.first),
-                last: Bound::constant(range.last),
-            },
+            span: Span::all(range),
             inner: None,
         }
     }

@@ -197,7 +197,7 @@ module _ (table : Table) (one there : Core) (rows : List ℕ) (told : Told) (are
 
   known-are : (held : List Held)
       → with_rows found (Live (record (viewed one) { held = held }))
-      ≡ Live (record { rows = settled state rows (map said_row one.rows); held = held })
+      ≡ Live (record { rows = settled state rows (map said_row one.rows); held = held; rules = one.rules })
   known-are held =
       with-settled state rows found (record (viewed one) { held = held })
       (found_are ∙ ap (map (joined_at table (viewed one))) are_told.rows_are ∙ pairs-are rows)
@@ -228,7 +228,7 @@ module _ (table : Table) (one there : Core) (rows : List ℕ) (told : Told) (are
       ≡ Live (joined_facts table (viewed one) (viewed there))
   both-known =
       known-are (with_more (said_all more) (kept_by told.kept.items (said_all one.held)))
-      ∙ ap₂ (λ (all : List RowState) (held : List Held). Live (record { rows = all; held = held })) rows-are held-are
+      ∙ ap₂ (λ (all : List RowState) (held : List Held). Live (record { rows = all; held = held; rules = one.rules })) rows-are held-are
 
 core-live : (from : Core) → from.is_dead ≡ false → seen_core from ≡ Live (viewed from)
 core-live from is = ap (λ (dead : Bool). cond dead Dead (Live (viewed from))) is

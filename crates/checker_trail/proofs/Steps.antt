@@ -46,7 +46,8 @@ row-returns from row was now is =
 
 rows-seen : (from : Core) (row : ℕ) (now : Row) → viewed (record from { rows = set from.rows row now }) ≡ with_row row (said_row now) (viewed from)
 rows-seen from row now =
-    ap (λ (rows : List RowState). let one : Facts = record { rows = rows; held = map said_held from.held } in one) (map-set said_row from.rows row now)
+    ap (λ (rows : List RowState). let one : Facts = record { rows = rows; held = map said_held from.held; rules = from.rules } in one)
+    (map-set said_row from.rows row now)
 
 pub row-moves : {old new : Kept} (row : ℕ) (was now : Row) → old.known.is_dead ≡ false → said_row was ≡ row_at (viewed (core old.known)) row
     → Makes (change.Row row was now) old new → Moves (with_state row (said_row now)) old new

@@ -3,6 +3,7 @@
 use Rattle.std.specs.Prelude.{None, ◌≡◌, List, [], ◌∷◌, ◌++◌, ℕ}
 use Rattle.std.specs.Prelude.{take, drop}
 use Rattle.typed_tree.specs.declared.tree.Tree.{Tree}
+use Rattle.domain.specs.declared.versions.Version.{Version}
 use Rattle.checker_trail.specs.declared.state.State.{State as Kept}
 use Rattle.checker_known.specs.declared.change.Branch.{Branch}
 use Rattle.checker_known.specs.declared.change.Change.{Change}
@@ -43,14 +44,14 @@ pub record Made (change : Change) (old new : Kept) : Type 0 where
 pub record Makes (change : Change) (old new : Kept) : Type 0 where
   pub unless_short : new.refused ≡ None → Made change old new
 
--- a state that is not short knows what types tell, and nothing can be taken back
-pub record Started (tree : Tree) (state : Kept) : Type 0 where
+-- a state that is not short knows what types tell, by some rules, and nothing can be taken back
+pub record Started (rules : Version) (tree : Tree) (state : Kept) : Type 0 where
   pub table_is : state.table.now ≡ tree
-  pub seen_is : seen state ≡ of_types (type_rows tree)
+  pub seen_is : seen state ≡ of_types rules (type_rows tree)
   pub no_trail : state.trail.items ≡ []
 
-pub record Starts (tree : Tree) (state : Kept) : Type 0 where
-  pub unless_short : state.refused ≡ None → Started tree state
+pub record Starts (rules : Version) (tree : Tree) (state : Kept) : Type 0 where
+  pub unless_short : state.refused ≡ None → Started rules tree state
 
 -- ---- branches
 

@@ -4,14 +4,15 @@ ghost use Rattle.checker_trail.specs.Trail.{Starts};
 use crate::state::State;
 use checker_known::{Known, Resting};
 use checker_rows::Rows;
+use domain::versions::Version;
 use std::alloc::Global;
 
 impl<'a> State<'a> {
-    /// What is known by types alone.
-    pub fn of_types(alloc: Global, table: &'a Rows<'a>) -> State<'a>
-        ensures { Starts table.now result }
+    /// What is known by types alone, by the rules of a version of certificates.
+    pub fn of_types(alloc: Global, rules: Version, table: &'a Rows<'a>) -> State<'a>
+        ensures { Starts rules table.now result }
     {
-        match Known::of_types(alloc, table) {
+        match Known::of_types(alloc, rules, table) {
             Ok(known) => State {
                 table,
                 alloc,
@@ -29,6 +30,7 @@ impl<'a> State<'a> {
                     knots: Vec::new(alloc),
                     resting: Resting::none(alloc),
                     is_dead: false,
+                    rules,
                 },
                 trail: Vec::new(alloc),
                 refused: Some(error.into()),

@@ -15,6 +15,7 @@ use checker_rows::Rows;
 use checker_state::{Bound, Held, Term};
 use domain::Domain;
 use domain::interval::Interval;
+use domain::versions::Version;
 use memory::Refused;
 use std::alloc::Global;
 
@@ -101,6 +102,13 @@ impl<'a> State<'a> {
         ensures { result.now ≡ self.now.table.now }
     {
         self.table
+    }
+
+    /// The version of certificates by whose rules it is known.
+    pub fn rules(&self) -> Version
+        ensures { result ≡ self.now.known.rules }
+    {
+        self.known.rules
     }
 
     /// Where it gets memory from.

@@ -2,6 +2,7 @@ use Rattle.std.proofs.Common.{arith, ◌≡◌, ◌∙◌, ◌+◌, ◌<◌, [],
 use Rattle.std.specs.Global.{Vec}
 use Rattle.typed_tree.specs.declared.tree.Tree.{Tree}
 use Rattle.typed_tree.specs.Entries.{entries_of}
+use Rattle.domain.specs.declared.versions.Version.{Version}
 use Rattle.checker_trail.specs.Trail.{Starts}
 use Rattle.checker_loops.specs.Starts.{all_declared}
 use Rattle.checker_loops.specs.View.{all_loop_aliases, said_claims}
@@ -25,7 +26,9 @@ returns-clause-sites c =
     let declared_are : map (λ (row : Vec ℕ). row.items) c.in-Some-2.declared.items ≡ all_declared tree =
     rw c.in-Some-2.is at c.in_ok-declared.ensures in
     let noted = program-noted tree certificate begins c.deref-4.result.now
-    (subst (λ (t : Tree). Starts t c.of_types.result) (sym c.tree-tree.ensures) c.of_types.ensures) c.in_ok-grounds.ensures claims_are aliases_are
+    (subst (λ (t : Tree). Starts certificate.version t c.of_types-state.result) (sym c.tree-tree.ensures)
+    (subst (λ (v : Version). Starts v c.args.rows.now c.of_types-state.result) c.in_ok-grounds.ensures.version_is c.of_types-state.ensures))
+    c.in_ok-grounds.ensures claims_are aliases_are
     (ap (map (λ (row : Vec ℕ). row.items)) c.deref-4.ensures.value ∙ declared_are) c.blocks-2.ensures.goes in
     program-open tree certificate begins noted c.in_ok-open_ids.ensures ∙ ap (λ (t : Tree). (program_walk t certificate).open_ids) c.tree-tree.ensures
 
@@ -40,7 +43,9 @@ returns-clause-rules c =
     let declared_are : map (λ (row : Vec ℕ). row.items) c.in-Some-2.declared.items ≡ all_declared tree =
     rw c.in-Some-2.is at c.in_ok-declared.ensures in
     let noted = program-noted tree certificate begins c.deref-4.result.now
-    (subst (λ (t : Tree). Starts t c.of_types.result) (sym c.tree-tree.ensures) c.of_types.ensures) c.in_ok-grounds.ensures claims_are aliases_are
+    (subst (λ (t : Tree). Starts certificate.version t c.of_types-state.result) (sym c.tree-tree.ensures)
+    (subst (λ (v : Version). Starts v c.args.rows.now c.of_types-state.result) c.in_ok-grounds.ensures.version_is c.of_types-state.ensures))
+    c.in_ok-grounds.ensures claims_are aliases_are
     (ap (map (λ (row : Vec ℕ). row.items)) c.deref-4.ensures.value ∙ declared_are) c.blocks-2.ensures.goes in
     subst (λ (t : Tree). (program_walk t certificate).broken ≡ []) c.tree-tree.ensures
     (program-unbroken tree certificate begins noted c.in_ok-open_ids.ensures)
@@ -56,7 +61,9 @@ returns-in_err-open_ids-clause-rules c =
     let declared_are : map (λ (row : Vec ℕ). row.items) c.in-Some-2.declared.items ≡ all_declared tree =
     rw c.in-Some-2.is at c.in_ok-declared.ensures in
     let noted = program-noted tree certificate begins c.deref-4.result.now
-    (subst (λ (t : Tree). Starts t c.of_types.result) (sym c.tree-tree.ensures) c.of_types.ensures) c.in_ok-grounds.ensures claims_are aliases_are
+    (subst (λ (t : Tree). Starts certificate.version t c.of_types-state.result) (sym c.tree-tree.ensures)
+    (subst (λ (v : Version). Starts v c.args.rows.now c.of_types-state.result) c.in_ok-grounds.ensures.version_is c.of_types-state.ensures))
+    c.in_ok-grounds.ensures claims_are aliases_are
     (ap (map (λ (row : Vec ℕ). row.items)) c.deref-4.ensures.value ∙ declared_are) c.blocks-2.ensures.goes in
     subst (λ (t : Tree). MatchResult c.from_residual-in_err-open_ids.result (λ _. (program_walk t certificate).broken ≡ [])
     (IsGivenUpFor t certificate))

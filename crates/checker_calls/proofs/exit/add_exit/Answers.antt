@@ -19,6 +19,7 @@ returns-in-Defined c =
     let touches = c.args.touches.now in
     let state = seen c.args.state.now in
     moves-as (with_exit tree block bindings touches (said_fact c.args.fact.now)) c.define_rows.ensures
-    (ap₂ (λ (found : Option (List Span)) (rows : List ℕ). bearers_defined tree found (all_of_rows rows) state) c.exit_spans-within.ensures c.rows_outside-outside.ensures
+    (ap₂ (λ (found : Option (List Span)) (rows : List ℕ). bearers_defined tree found (all_of_rows rows) state) c.exit_spans-within.ensures
+    c.rows_outside-outside.ensures
     ∙ outside-defined tree block bindings touches (said_path c.in-Defined.path) (said_spans c.in-Defined.spans) state
     ∙ ap (λ (fact : Fact). with_exit tree block bindings touches (said_fact fact) state) (sym c.in-Defined.is))

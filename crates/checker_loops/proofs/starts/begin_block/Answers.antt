@@ -11,7 +11,7 @@ use Rattle.checker_loops.proofs.Beginning.{start-is}
 use Rattle.checker_loops.proofs.starts.begin_block.Goals as goal
 
 pub returns-clause-begins : goal.returns-clause-begins
-returns-clause-begins c = λ table start.
+returns-clause-begins c = λ rules table start.
     let tree = c.args.state.now.table.now in
     let block = c.args.block in
     let facts = map said_fact c.args.facts.now in
@@ -19,6 +19,6 @@ returns-clause-begins c = λ table start.
     let roots : c.own_roots.result.now ≡ own_roots tree (all_declared tree) block =
     c.own_roots.ensures ∙ ap (λ (t : Tree). own_roots t given block) (c.tree.ensures ∙ c.table.ensures)
     ∙ ap (λ (rows : List (List ℕ)). own_roots tree rows block) table in
-    moves-as (λ _. block_start tree block facts)
+    moves-as (λ _. block_start rules tree block facts)
     (moves-told (λ (t : Tree). with_claims (all_said t facts)) c.begin_all.ensures c.claim_facts.ensures)
-    (ap (with_claims (all_said tree facts)) (ap₂ (all_begun tree block) roots start ∙ start-is tree block))
+    (ap (with_claims (all_said tree facts)) (ap₂ (all_begun tree block) roots start ∙ start-is tree block rules))

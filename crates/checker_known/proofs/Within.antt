@@ -1,0 +1,35 @@
+-- What is held of the indexes of a row, by the first two of their values.
+use Rattle.std.proofs.Common.{◌≡◌, refl, sym, ap, ℕ, Bool, true, false, ◌&&◌, List, [], ◌∷◌, Some, None, drop}
+use Rattle.std.proofs.lemmas.Option.{none-some, same_Some}
+use Rattle.std.specs.List.{list_any}
+use Rattle.std.specs.Prelude.{slice_get}
+use Rattle.types.specs.declared.form.OrdinalRange.{OrdinalRange}
+use Rattle.checker_rows.specs.Leaves.{index_before}
+use Rattle.checker_state.specs.State.{Facts, Span, all_indexes, all_of, covers, has_span, have_spans, is_spanned}
+
+and-own : (b : Bool) → b ≡ (b && true)
+and-own true = refl
+and-own false = refl
+
+module _ (known : Facts) where
+  -- all of an index, by the span of all its values
+  pub all-has : (range : OrdinalRange) (held : Span) → has_span known (all_indexes range) held ≡ have_spans known (range ∷ []) [] (held ∷ [])
+  all-has range held = and-own (has_span known (all_indexes range) held)
+
+  -- all of the second index
+  pub inner_has : (indexes : List OrdinalRange) (held : Span)
+      → have_spans known (index_before (slice_get indexes 1) []) [] (held ∷ []) ≡ have_spans known (drop 1 indexes) [] (held ∷ [])
+  inner_has [] held = refl
+  inner_has (first ∷ []) held = refl
+  inner_has (first ∷ second ∷ indexes) held = refl
+
+  -- all of the first
+  pub spanned_none : (row : ℕ) (indexes : List OrdinalRange) → slice_get indexes 0 ≡ None → is_spanned known row indexes ≡ false
+  spanned_none row [] is = refl
+  spanned_none row (range ∷ indexes) is = absurd (none-some range (sym is))
+
+  pub spanned_some : (row : ℕ) (indexes : List OrdinalRange) (range : OrdinalRange) → slice_get indexes 0 ≡ Some range
+      → is_spanned known row indexes ≡ list_any (covers known indexes (all_of row range)) known.held
+  spanned_some row [] range is = absurd (none-some range is)
+  spanned_some row (first ∷ indexes) range is =
+      ap (λ (own : OrdinalRange). list_any (covers known (first ∷ indexes) (all_of row own)) known.held) (same_Some first range is)
