@@ -177,9 +177,13 @@ def exchanges(lines):
     """Each two lines by their numbers, and the lines with these exchanged."""
     for second in range(2, len(lines) + 1):
         for first in range(1, second):
-            turned = list(lines)
-            turned[first - 1], turned[second - 1] = lines[second - 1], lines[first - 1]
-            yield first, second, turned
+            yield first, second, exchanged(lines, first, second)
+
+
+def exchanged(lines, first, second):
+    turned = list(lines)
+    turned[first - 1], turned[second - 1] = lines[second - 1], lines[first - 1]
+    return turned
 
 
 def without(lines, line):
