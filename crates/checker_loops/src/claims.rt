@@ -105,6 +105,11 @@ fn defined_of(rows: &Rows, spans: Spans, row: usize) -> Claim
             span: kept_span(span),
             inner: None,
         })),
+        Spans::Two(span, inner) => Claim::Holds(Held::Stretched(Stretch {
+            row,
+            span: kept_span(span),
+            inner: Some(kept_span(inner)),
+        })),
     }
 }
 
