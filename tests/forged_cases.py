@@ -3,23 +3,16 @@ is another one, and whose lines are exchanged, left out or written twice. What e
 docs/CERTIFICATES.md and docs/CODE.md: the first faulty line, and of its faults the first; else what the program is
 refused for or told, and what the machine does."""
 
+from dataclasses import dataclass
+
 from case_files import Case
 
 PLACE = "tests/forged_cases.py"
-SOURCE = (
-    b"program p(input, output); var n: 1..100; i: integer; a: array [1..100] of integer; "
-    b"begin read(n); for i := 1 to n do read(a[i]); for i := 1 to n do write(a[i]) end."
-)
-CERTIFICATE = (b"pcert 1", b"proc 0", b"loop 0", b"change v2", b"fact defined v2 1 v1-1")
 CODE = (b"pcode 1", b"ent 0 2", b"ldc 7", b"ldc 3", b"wri", b"wln", b"stp", b"end")
 CELLS = (b"--cells", b"6")
 # A byte that no line has.
 FORGED = b"?"
 
-# The loop doesn't list the array that is read to in it.
-UNLISTED = f"1:{SOURCE.index(b'a[i]') + 1}: certificate refused C7"
-# Without the fact nothing is known of the elements that are written.
-OPEN = f"1:{SOURCE.rindex(b'a[i]') + 1}: possible error: undefined variable"
 # Changes of the program's block itself can't be listed.
 OF_THE_PROGRAM = "certificate refused C1"
 
@@ -36,38 +29,109 @@ def code_line(line, code):
     return refused("code", line, code)
 
 
-# What is told of the certificate that ends behind a line. Behind the last it would be the whole certificate.
-CUT_BEHIND = {
-    0: certificate_line(1, "F1"),
-    1: UNLISTED,
-    2: certificate_line(2, "F3"),
-    3: certificate_line(3, "F3"),
-    4: OPEN,
-}
-# With two of its lines exchanged. Where the heading is one of them, the first line is another than the heading.
-CERTIFICATE_EXCHANGED = {
-    (2, 3): certificate_line(2, "F3"),
-    (2, 4): certificate_line(2, "F3"),
-    (2, 5): certificate_line(2, "F3"),
-    (3, 4): OF_THE_PROGRAM,
-    (3, 5): certificate_line(3, "F3"),
-    (4, 5): certificate_line(5, "F3"),
-}
-CERTIFICATE_WITHOUT = {
-    1: certificate_line(1, "F1"),
-    2: certificate_line(2, "F3"),
-    3: certificate_line(4, "F3"),
-    4: UNLISTED,
-    5: OPEN,
-}
-# With a line twice. A section and a loop need lines below them; changes and facts ascend.
-CERTIFICATE_TWICE = {
-    1: certificate_line(2, "F3"),
-    2: certificate_line(2, "F3"),
-    3: certificate_line(3, "F3"),
-    4: certificate_line(5, "F3"),
-    5: certificate_line(6, "F3"),
-}
+def faults(**lines):
+    """F3 at each line, by the lines that were exchanged, as in `_2_3`, or that one alone."""
+    numbers = {key: tuple(map(int, key.split("_")[1:])) for key in lines}
+    return {its if len(its) > 1 else its[0]: certificate_line(lines[key], "F3") for key, its in numbers.items()}
+
+
+@dataclass
+class Genuine:
+    """A source and a certificate of it that leaves nothing open, and what is told of texts that are made of it: of the
+    one that ends behind a line, and where two lines are exchanged, a line is left out or is there twice. Where the
+    heading is one of two lines that are exchanged, the first line is another than the heading."""
+
+    title: str
+    source: bytes
+    lines: tuple
+    cut_behind: dict
+    exchanged: dict
+    without: dict
+    twice: dict
+
+
+def told_at(source, part, told, is_last=False):
+    """What is told at a part of a source in one line."""
+    return f"1:{(source.rindex(part) if is_last else source.index(part)) + 1}: {told}"
+
+
+def list_of_numbers():
+    """A list that is read and written."""
+    source = (
+        b"program p(input, output); var n: 1..100; i: integer; a: array [1..100] of integer; "
+        b"begin read(n); for i := 1 to n do read(a[i]); for i := 1 to n do write(a[i]) end."
+    )
+    # The loop doesn't list the array that is read to in it.
+    unlisted = told_at(source, b"a[i]", "certificate refused C7")
+    # Without the fact nothing is known of the elements that are written.
+    is_open = told_at(source, b"a[i]", "possible error: undefined variable", is_last=True)
+    return Genuine(
+        "",
+        source,
+        (b"pcert 1", b"proc 0", b"loop 0", b"change v2", b"fact defined v2 1 v1-1"),
+        cut_behind={0: certificate_line(1, "F1"), 1: unlisted, **faults(_2=2, _3=3), 4: is_open},
+        exchanged={**faults(_2_3=2, _2_4=2, _2_5=2, _3_5=3, _4_5=5), (3, 4): OF_THE_PROGRAM},
+        without={1: certificate_line(1, "F1"), **faults(_2=2, _3=4), 4: unlisted, 5: is_open},
+        # A section and a loop need lines below them; changes and facts ascend.
+        twice=faults(_1=2, _2=2, _3=3, _4=5, _5=6),
+    )
+
+
+def matrix_by_rows():
+    """A matrix that is filled row by row, with a block of its row."""
+    source = (
+        b"program p(output); var m: array [1..3, 1..4] of integer; i, j: integer; begin for i := 1 to 3 do "
+        b"for j := 1 to 4 do m[i, j] := i * j; write(m[3, 4]:1, m[1, 2]:1) end."
+    )
+    # A loop doesn't list the matrix that is changed in it.
+    unlisted = told_at(source, b":= i * j", "certificate refused C7")
+    # Without the block the row that a turn fills isn't known behind it, and the fact of the rows isn't given again.
+    not_again = told_at(source, b"for i", "certificate refused C3")
+    # Without that only the last row is known behind the loop, by what its last turn filled.
+    is_open = told_at(source, b"m[1, 2]", "possible error: undefined variable")
+    # A block of the outer loop has a bound by the control variable of the inner one, which has no value yet.
+    not_given = told_at(source, b"for i", "certificate refused C2")
+    return Genuine(
+        "of_a_matrix_",
+        source,
+        (
+            b"pcert 2",
+            b"proc 0",
+            b"loop 0",
+            b"change v0",
+            b"fact defined v0 1 v1-1",
+            b"loop 1",
+            b"change v0",
+            b"fact defined v0 v1+0 v1+0 1 v2-1",
+        ),
+        cut_behind={
+            0: certificate_line(1, "F1"),
+            1: unlisted,
+            **faults(_2=2, _3=3, _6=6),
+            4: unlisted,
+            5: unlisted,
+            7: not_again,
+        },
+        exchanged={
+            **faults(_2_3=2, _2_4=2, _2_5=2, _2_6=2, _2_7=2, _2_8=2),
+            **faults(_3_5=3, _3_6=6, _3_7=4, _3_8=3, _4_5=5, _4_6=3, _4_8=5),
+            **faults(_5_6=7, _5_7=5, _6_7=6, _6_8=7, _7_8=8),
+            (3, 4): OF_THE_PROGRAM,
+            # These two lines are the same.
+            (4, 7): None,
+            (5, 8): not_given,
+        },
+        without={
+            1: certificate_line(1, "F1"),
+            **faults(_2=2, _3=4, _6=6),
+            4: unlisted,
+            5: is_open,
+            7: unlisted,
+            8: not_again,
+        },
+        twice=faults(_1=2, _2=2, _3=3, _4=5, _5=6, _6=6, _7=8, _8=9),
+    )
+
 
 POP_BELOW, PUSH_ABOVE = "machine fault M1", "machine fault M2"
 OUTSIDE_THE_CODE = "machine fault M2"
@@ -121,9 +185,9 @@ def told_text(told):
     return b"" if told is None else f"{told}\n".encode()
 
 
-def certificate_case(name, text, told):
-    name = f"certificate_{name}"
-    return Case(name, PLACE, source=SOURCE, certificate=text, tells=told_text(told), status=status_of(told))
+def certificate_case(genuine, name, text, told):
+    name = f"certificate_{genuine.title}{name}"
+    return Case(name, PLACE, source=genuine.source, certificate=text, tells=told_text(told), status=status_of(told))
 
 
 def code_case(name, text, output, told):
@@ -141,18 +205,18 @@ def line_of(text, index):
     return text.count(b"\n", 0, index) + 1
 
 
-def cut_certificates():
-    text = joined(CERTIFICATE)
+def cut_certificates(genuine):
+    text = joined(genuine.lines)
     for length in range(len(text)):
         ended = length == 0 or text[length - 1 : length] == b"\n"
         whole = text.count(b"\n", 0, length)
-        told = CUT_BEHIND[whole] if ended else certificate_line(whole + 1, "F5")
+        told = genuine.cut_behind[whole] if ended else certificate_line(whole + 1, "F5")
         yield f"cut_behind_byte_{length}", text[:length], told
 
 
-def changed_certificates():
+def changed_certificates(genuine):
     """With another byte the heading is none, another line is none of a certificate, and the last one has no end."""
-    text = joined(CERTIFICATE)
+    text = joined(genuine.lines)
     for index in range(len(text)):
         line = line_of(text, index)
         code = "F1" if line == 1 else "F2" if index + 1 < len(text) else "F5"
@@ -163,14 +227,14 @@ def with_another(text, index):
     return text[:index] + FORGED + text[index + 1 :]
 
 
-def certificate_lines():
-    for first, second, lines in exchanges(CERTIFICATE):
-        told = CERTIFICATE_EXCHANGED[first, second] if first > 1 else certificate_line(1, "F1")
+def certificate_lines(genuine):
+    for first, second, lines in exchanges(genuine.lines):
+        told = genuine.exchanged[first, second] if first > 1 else certificate_line(1, "F1")
         yield f"lines_{first}_and_{second}_exchanged", joined(lines), told
-    for line, told in CERTIFICATE_WITHOUT.items():
-        yield f"without_line_{line}", joined(without(CERTIFICATE, line)), told
-    for line, told in CERTIFICATE_TWICE.items():
-        yield f"with_line_{line}_twice", joined(twice(CERTIFICATE, line)), told
+    for line, told in genuine.without.items():
+        yield f"without_line_{line}", joined(without(genuine.lines, line)), told
+    for line, told in genuine.twice.items():
+        yield f"with_line_{line}_twice", joined(twice(genuine.lines, line)), told
 
 
 def exchanges(lines):
@@ -230,7 +294,8 @@ def code_lines():
 
 
 def forged_cases():
-    for make in (cut_certificates, changed_certificates, certificate_lines):
-        yield from (certificate_case(*made) for made in make())
+    for genuine in (list_of_numbers(), matrix_by_rows()):
+        for make in (cut_certificates, changed_certificates, certificate_lines):
+            yield from (certificate_case(genuine, *made) for made in make(genuine))
     for make in (cut_codes, changed_codes, code_lines):
         yield from (code_case(*made) for made in make())

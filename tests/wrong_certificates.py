@@ -10,12 +10,14 @@ NUMBER = re.compile(rb"(?<= )-?[0-9]+|(?<=[0-9])[+-][0-9]+")
 ROOT = re.compile(rb"(?<= v)[0-9]+")
 BOUND = re.compile(rb"(v[0-9]+|)(.*)")
 ELEMENTS = re.compile(rb" defined (\S+) (\S+) (\S+)$")
+BLOCK = re.compile(rb" defined (\S+) (\S+) (\S+) (\S+) (\S+)$")
 ARRAY = re.compile(rb" (?:range (?=\S*\[)|defined (?=\S+ \S+ \S))(v[0-9]+[.a-z0-9]*)")
 ORDINAL = re.compile(rb"(?<= range )v[0-9]+(?= )|(?<= order )v[0-9]+|(?<= )v[0-9]+(?=[+-])")
 TOKEN = re.compile(rb"v[0-9]+|\[\]|\.[a-z0-9]+|[+-]?[0-9]+")
 FACTS = (b"entry", b"exit", b"fact")
 WORDS = (b"alias", b"change", *FACTS)
-FORMS = (b"range", b"defined", b"", b"order")
+FORMS = (b"range", b"defined", b"a stretch", b"a block", b"order")
+BOUNDED = FORMS[2:4]
 HEADS = (b"proc ", b"loop ")
 LARGE = (0, 999999, 1000000, 2147483647, 2147483648, -2147483647, -2147483648, 10**20)
 # None of them is that of a later version, which another compiler may know.
@@ -94,7 +96,7 @@ def with_another_variable(chance, lines):
     return with_changed(chance, lines, ROOT, change)
 
 
-# ---- stretches
+# ---- stretches and blocks
 
 
 class Place:
@@ -134,10 +136,10 @@ class Place:
         return first, self.chance.choice((self.bound(), moved(first, self.chance.randint(-1, 4))))
 
     def with_more(self, path, *added):
-        """The certificate with more stretches of a path there, in order."""
+        """The certificate with more stretches or blocks of a path there, in order."""
         is_loop = self.lines[self.at].startswith(b"loop")
         word = b"fact" if is_loop else self.chance.choice((b"entry", b"exit"))
-        added = {b"%s defined %s %s %s" % (word, path, *bounds) for bounds in added}
+        added = {b" ".join((word, b"defined", path, *bounds)) for bounds in added}
         return joined([*self.lines[:self.at + 1], *sorted({*self.own, *added}, key=standing), *self.lines[self.end:]])
 
 
@@ -178,21 +180,46 @@ def with_two_stretches(chance, lines):
 
 def with_another_bound(chance, lines):
     """A bound is by another variable, or another one altogether."""
-    found = [at for at, line in enumerate(lines) if ELEMENTS.search(line)]
+    found = [at for at, line in enumerate(lines) if form_of(line) in BOUNDED]
     if not found:
         return with_a_stretch(chance, lines)
     at = chance.choice(found)
-    head = max(above for above in range(at) if lines[above].startswith(HEADS))
-    it, match, side = Place(chance, lines, head), ELEMENTS.search(lines[at]), chance.choice((2, 3))
+    match = BLOCK.search(lines[at]) or ELEMENTS.search(lines[at])
+    it, side = Place(chance, lines, head_of(lines, at)), chance.randint(2, len(match.groups()))
     root, number = BOUND.fullmatch(match[side]).groups()
     new = it.found(ORDINAL) + number if root and chance.random() < 0.6 else it.bound()
     return joined([*lines[:at], lines[at][:match.start(side)] + new + lines[at][match.end(side):], *lines[at + 1:]])
 
 
+def with_a_block(chance, lines):
+    """One more, which lies in one that is there, over its ends or beside it."""
+    found = [at for at, line in enumerate(lines) if BLOCK.search(line)]
+    if not found:
+        return with_a_stretch(chance, lines)
+    at = chance.choice(found)
+    path, *bounds = BLOCK.search(lines[at]).groups()
+    side = chance.choice((0, 2))
+    first, last = bounds[side:side + 2]
+    by, more = chance.randint(1, 2), chance.randint(1, 5)
+    bounds[side:side + 2] = chance.choice((
+        (moved(first, by), last), (first, moved(last, -by)), (first, moved(last, by)), (moved(first, -by), last),
+        (moved(last, 1), moved(last, more)), (moved(first, -more), moved(first, -1)), (last, last), (first, first)))
+    return Place(chance, lines, head_of(lines, at)).with_more(path, bounds)
+
+
+def head_of(lines, at):
+    return max(above for above in range(at) if lines[above].startswith(HEADS))
+
+
+def form_of(line):
+    """The form of a fact."""
+    return b"a stretch" if ELEMENTS.search(line) else b"a block" if BLOCK.search(line) else line.split(b" ")[1]
+
+
 def standing(line):
     """Where a line stands among those of its block or loop."""
     word, *more = line.split(b" ")
-    form = FORMS.index(b"" if ELEMENTS.search(line) else more[0]) if word in FACTS else 0
+    form = FORMS.index(form_of(line)) if word in FACTS else 0
     return WORDS.index(word), form, [[token_standing(token) for token in TOKEN.findall(it)] for it in more]
 
 
@@ -208,7 +235,7 @@ ALWAYS_WRONG = {"a line twice": doubled, "a line behind the next": put_behind_th
                 "another heading": with_another_heading}
 WAYS = {"a line left out": left_out, "a fact left out": fact_left_out, "another number": nudged,
         "another variable": with_another_variable, "another bound": with_another_bound,
-        "a stretch more": with_a_stretch, "two stretches more": with_two_stretches}
+        "a stretch more": with_a_stretch, "two stretches more": with_two_stretches, "a block more": with_a_block}
 
 
 def wrong_certificates(chance, text):

@@ -83,8 +83,12 @@ class Words:
             return WHERE[word], f"{self.part(path)} {lies}"
         if kind == "order":
             return WHERE[word], f"{self.part(path)} <= {self.sum(values[0], int(values[1]))}"
-        bounds = f"[{self.bound(values[0])}..{self.bound(values[1])}]" if values else ""
-        return f"{WHERE[word]} defined", self.part(path) + bounds
+        spans = ", ".join(self.span(*ends) for ends in zip(values[::2], values[1::2]))
+        return f"{WHERE[word]} defined", self.part(path) + (f"[{spans}]" if spans else "")
+
+    def span(self, first, last):
+        """The indexes between two bounds, or the one that both are."""
+        return self.bound(first) + ("" if first == last else f"..{self.bound(last)}")
 
     def bound(self, text):
         found = BOUND.fullmatch(text)

@@ -22,6 +22,8 @@ from tools.facts import Words, facts
 SECONDS = 60
 # Which cases are taken, and how long their sources are.
 EACH, MOST_BYTES = 13, 20000
+# Where a fact ends, and not a span in its brackets.
+FACT_ENDS = re.compile(r", (?![^\[]*\])")
 HEADS = {"at each call": "entry", "at its end": "exit", "at each turn": "fact"}
 # Names that stand in several blocks, headings with `forward`, records, and blocks in blocks.
 FORMS = b"""program forms(input, output);
@@ -101,6 +103,10 @@ class Reader:
         name, sign, number = re.fullmatch(r"(.*?)(?: ([+-]) (\d+))?", words).groups()
         return f"v{self.numbers[name]}{sign or '+'}{number or 0}"
 
+    def span(self, words):
+        first, _, last = words.partition("..")
+        return f"{self.bound(first)} {self.bound(last or first)}"
+
     def fact(self, head, words):
         if head == "may change":
             return f"change {self.part(words)}"
@@ -108,9 +114,10 @@ class Reader:
             return "alias {} {}".format(*(self.part(one) for one in words.split(" and ")))
         word, _, is_defined = head.partition(" defined")
         word = HEADS[head.removesuffix(" defined")]
-        bounds = re.fullmatch(r"(.*)\[(.+)\.\.(.+)\]", words)
-        if head.endswith(" defined") and bounds:
-            return f"{word} defined {self.part(bounds[1])} {self.bound(bounds[2])} {self.bound(bounds[3])}"
+        spans = re.fullmatch(r"(.*)\[(.+)\]", words)
+        if head.endswith(" defined") and spans:
+            ends = " ".join(self.span(one) for one in spans[2].split(", "))
+            return f"{word} defined {self.part(spans[1])} {ends}"
         if head.endswith(" defined"):
             return f"{word} defined {self.part(words)}"
         order = words.partition(" <= ")
@@ -128,7 +135,7 @@ class Reader:
         for line in re.sub(r"\n      (?=\S)", " ", said).splitlines():
             if line.startswith("    "):
                 head, _, facts = line.strip().partition(": ")
-                sections[-1][1].update(self.fact(head, fact) for fact in facts.split(", "))
+                sections[-1][1].update(self.fact(head, fact) for fact in FACT_ENDS.split(facts))
             elif line.startswith("  loop at "):
                 sections.append((f"loop {self.loops[line[10:].partition(',')[0]]}", set()))
             else:
@@ -178,7 +185,7 @@ class Facts(FactsCase):
 
     def test_words(self):
         text = b"program p;\nvar i, n: integer;\nbegin\n  n := 0;\n  for i := 1 to 9 do\n    n := i\nend.\n"
-        lines = ("pcert 1", "proc 0", "loop 0", "change v1", "fact range v1 0 9")
+        lines = ("pcert 2", "proc 0", "loop 0", "change v1", "fact range v1 0 9")
         orders = ("fact order v0 v1 1", "fact order v1 v0 -1")
         self.assertEqual(self.certificate(self.put(text)).splitlines(), [*lines, *orders])
         self.assertEqual(
@@ -186,6 +193,18 @@ class Facts(FactsCase):
             "p, line 1\n  loop at 5:3, for i := 1 to 9 do\n    may change: n\n"
             "    at each turn: n in 0..9, i <= n + 1, n <= i - 1\n",
         )
+
+    def test_spans(self):
+        """Stretches, with points among them, and blocks."""
+        text = b"program p; var m: array [1..3, 1..4] of integer; n: 0..3; begin end."
+        for line, said in (
+            ("fact defined v0 1 v1-1", "m[1..n - 1]"),
+            ("fact defined v0 v1+0 v1+0", "m[n]"),
+            ("fact defined v0 2 2 v1+1 4", "m[2, n + 1..4]"),
+        ):
+            words = Words(text.decode())
+            self.assertEqual(words.said(line.split()), ("at each turn defined", said))
+            self.assertEqual(Reader(text.decode()).fact("at each turn defined", said), line)
 
     def test_refused(self):
         self.assertEqual(self.facts(self.put(b"program p; begin x end.")), "")

@@ -13,7 +13,7 @@ PROGRAM = os.environ["PCOM"]
 SOURCE = "program p(output); begin writeln(1: 1) end.\n"
 OPEN = "program q(output); var i: integer; begin write(i) end.\n"
 TOLD = "1:48: possible error: undefined variable\n1:48: error: undefined variable\n"
-CERT = "pcert 1\n"
+CERT = "pcert 2\n"
 SECONDS = 60
 
 
@@ -61,7 +61,7 @@ class Files(unittest.TestCase):
 
     def test_a_new_file(self):
         self.assertEqual(self.compiled("--write-cert", "p.cert", "p.pas", "p.code"), ("", 0))
-        self.assertEqual(self.text_of("p.cert"), "pcert 1\n")
+        self.assertEqual(self.text_of("p.cert"), CERT)
         self.assertTrue(self.text_of("p.code").startswith("pcode 1\n"))
         self.assertTrue(self.text_of("p.code").endswith("\nend\n"))
         self.assertEqual(self.names(), ["p.cert", "p.code", "p.pas"])

@@ -36,10 +36,9 @@ PROGRAMS = (
     ),
     (
         "undefined variable",
-        """type row = array [1..4] of integer;
-        var m: array [1..3] of row; line: row; i, j: integer;
+        """var m: array [1..4, 1..4] of integer; i, j: integer;
         begin
-          for i := 1 to 3 do begin @ end;
+          for i := 1 to 4 do begin @ end;
           writeln(m[2, 2]: 1)
         end.""",
     ),

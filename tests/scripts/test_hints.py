@@ -57,7 +57,7 @@ STATEMENTS = {
         "a[1] := 2; write(a[2])",
     ),
     "tables of two indexes": (
-        "for i := 1 to 3 do for j := 1 to 9 do m[i, j] := 0; write(m[2, 2])",
+        "for j := 1 to 9 do for i := 1 to 3 do m[i, j] := 0; write(m[2, 2])",
         "m[1] := a; write(x div m[2, 2])",
     ),
     "condition that isn't 0": ("if y <> 0 then x := x div y", "x := x div y"),

@@ -115,7 +115,7 @@ fn is_no_order(fact: &Fact) -> bool {
 fn is_no_stretch(fact: &Fact) -> bool {
     match fact {
         Fact::Defined {
-            spans: Spans::One(_),
+            spans: Spans::One(_) | Spans::Two(_, _),
             ..
         } => false,
         _ => true,

@@ -50,12 +50,19 @@ fn says(rows: &Rows, fact: &Fact, other: &Fact) -> bool {
 fn have(rows: &Rows, path: &Path, spans: Spans, part: &Path, others: Spans) -> bool {
     match (spans, others) {
         (Spans::None, _) => true,
-        (Spans::One(_), Spans::None) => false,
-        (Spans::One(Span { first, last }), Spans::One(other)) => {
-            let is_wide = is_at_most(first, other.first) && is_at_most(other.last, last);
-            leads_to(part, path) && (is_wide || is_all(rows, path, first, last))
+        (Spans::One(span), Spans::One(other) | Spans::Two(other, _)) => {
+            leads_to(part, path) && (has(span, other) || is_all(rows, path, span.first, span.last))
         }
+        (Spans::Two(span, inner), Spans::Two(other, within)) => {
+            leads_to(part, path) && has(span, other) && has(inner, within)
+        }
+        (Spans::One(_) | Spans::Two(_, _), _) => false,
     }
+}
+
+// Whether a span has all of another, whatever variables hold.
+fn has(span: Span, other: Span) -> bool {
+    is_at_most(span.first, other.first) && is_at_most(other.last, span.last)
 }
 
 // Whether a path leads to a part, or to what that lies in.

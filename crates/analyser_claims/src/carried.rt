@@ -114,9 +114,18 @@ impl<'p, 't> Program<'p, 't> {
 
 fn renamed(names: &[Name], claim: Claim) -> Option<Claim> {
     match claim {
-        Claim::Stretch(array, first, last) => {
+        Claim::Defined(array, first, last, inner) => {
+            let inner = match inner {
+                None => None,
+                Some((low, high)) => Some((end_renamed(names, low), end_renamed(names, high))),
+            };
             let array = array_renamed(names, array);
-            Some(Claim::Stretch(array, end_renamed(names, first), end_renamed(names, last)))
+            Some(Claim::Defined(
+                array,
+                end_renamed(names, first),
+                end_renamed(names, last),
+                inner,
+            ))
         }
         Claim::Order(root, other) => Some(Claim::Order(
             end_renamed(names, End::variable(root)).root?,

@@ -7,10 +7,10 @@ use checker_state::{Bound, bound_form};
 use domain::facts::{self, Spans};
 use typed_tree::tree::Expr;
 
-/// How many stretches of one array are proposed in a block at most, and how many orders.
+/// How many stretches of one array are proposed in a block at most, how many of its rows, and how many orders.
 const MOST_OF_ARRAY: usize = 24;
 
-/// How many claims.
+/// How many claims; those of rows of matrices count for themselves, and push out no others.
 const MOST_OF_BLOCK: usize = 120;
 
 /// A number, or the value of a variable plus a number.
@@ -61,18 +61,25 @@ impl End {
 /// What may hold of variables.
 #[derive(Clone, Copy, PartialEq, Eq, PartialOrd, Ord)]
 pub enum Claim {
-    /// The elements of an array from one end to another are defined.
-    Stretch(Array, End, End),
+    /// The elements of an array from one end to another are defined; of a matrix perhaps only those whose second index
+    /// lies between two other ends.
+    Defined(Array, End, End, Option<(End, End)>),
     /// The value of one variable is at most that of another, or nearly.
     Order(u32, u32),
 }
 
 impl Claim {
     /// The variables that it names.
-    pub fn roots(&self) -> [Option<u32>; 3] {
+    pub fn roots(&self) -> [Option<u32>; 5] {
         match self {
-            Claim::Stretch(array, first, last) => [Some(array.root), first.root, last.root],
-            Claim::Order(root, other) => [Some(*root), Some(*other), None],
+            Claim::Defined(array, first, last, inner) => {
+                let (low, high) = match inner {
+                    None => (None, None),
+                    Some((low, high)) => (low.root, high.root),
+                };
+                [Some(array.root), first.root, last.root, low, high]
+            }
+            Claim::Order(root, other) => [Some(*root), Some(*other), None, None, None],
         }
     }
 
@@ -86,7 +93,7 @@ impl Claim {
     /// Whether it is of one of some variables, which ascend: of an array of theirs, or their order.
     pub fn is_of_any(&self, roots: &[u32]) -> bool {
         match self {
-            Claim::Stretch(array, ..) => roots.binary_search(&array.root).is_ok(),
+            Claim::Defined(array, ..) => roots.binary_search(&array.root).is_ok(),
             Claim::Order(..) => self.names_any(roots),
         }
     }
@@ -94,13 +101,14 @@ impl Claim {
     /// It as certificates tell it, if they have its numbers. An order begins at the least number that is tried.
     pub fn fact(&self, program: &Program) -> Option<Fact> {
         match self {
-            Claim::Stretch(array, first, last) => {
-                let part = program.parts(array.root).get(array.part);
-                let (Some(part), Some(first), Some(last)) = (part, first.said(), last.said()) else {
-                    return None;
+            Claim::Defined(array, first, last, inner) => {
+                let part = program.parts(array.root).get(array.part)?;
+                let span = said_span(*first, *last)?;
+                let spans = match inner {
+                    None => Spans::One(span),
+                    Some((low, high)) => Spans::Two(span, said_span(*low, *high)?),
                 };
                 let path = part.path(&program.memory);
-                let spans = Spans::One(facts::Span { first, last });
                 Some(Fact::Defined { path, spans })
             }
             Claim::Order(root, other) => Some(Fact::Order {
@@ -111,10 +119,18 @@ impl Claim {
         }
     }
 
+    // Whether it is of rows of a matrix.
+    fn is_of_rows(&self) -> bool {
+        match self {
+            Claim::Defined(_, _, _, inner) => inner.is_some(),
+            Claim::Order(..) => false,
+        }
+    }
+
     // Whether both are of one array, or of none.
     fn is_beside(&self, other: &Claim) -> bool {
         match (self, other) {
-            (Claim::Stretch(array, ..), Claim::Stretch(another, ..)) => array == another,
+            (Claim::Defined(array, ..), Claim::Defined(another, ..)) => array == another,
             (Claim::Order(..), Claim::Order(..)) => true,
             _ => false,
         }
@@ -123,10 +139,27 @@ impl Claim {
     /// Adds it to claims, which ascend, unless there are many.
     pub(crate) fn add_to(self, memory: &Memory, claims: &mut Vec<Claim>) {
         if let Err(place) = claims.binary_search(&self) {
-            let beside = claims.iter().filter(|other| self.is_beside(other));
-            if claims.len() < MOST_OF_BLOCK && beside.count() < MOST_OF_ARRAY {
+            let (mut alike, mut beside) = (0usize, 0usize);
+            for other in claims
+                .iter()
+                .filter(|other| self.is_of_rows() == other.is_of_rows())
+            {
+                alike = alike.saturating_add(1);
+                if self.is_beside(other) {
+                    beside = beside.saturating_add(1);
+                }
+            }
+            if alike < MOST_OF_BLOCK && beside < MOST_OF_ARRAY {
                 memory.insert(claims, place, self);
             }
         }
     }
+}
+
+// A span as certificates tell it, if they have its numbers.
+fn said_span(first: End, last: End) -> Option<facts::Span> {
+    Some(facts::Span {
+        first: first.said()?,
+        last: last.said()?,
+    })
 }

@@ -3,7 +3,7 @@
 use crate::claim::{Claim, End};
 use crate::events::Event;
 use crate::lists::row;
-use crate::parts::{Array, Part, array_accessed};
+use crate::parts::{Array, Part, array_accessed, matrix_accessed};
 use crate::program::Program;
 use checker_rows::limits;
 use domain::interval::Interval;
@@ -27,6 +27,25 @@ enum Deed {
     Selects(Array, i64),
     /// Its value is compared with that of another, or set to it.
     Meets(u32),
+    /// In the row of a matrix at an end, its value plus a number selects the element that gets a value.
+    SelectsIn(Array, End, i64),
+}
+
+/// Where stretches lie: in an array, or in the row of a matrix at an end.
+#[derive(Clone, Copy)]
+struct Line {
+    array: Array,
+    row: Option<End>,
+}
+
+impl Line {
+    // That its elements from one end to another are defined.
+    fn stretch(self, first: End, last: End) -> Claim {
+        match self.row {
+            None => Claim::Defined(self.array, first, last, None),
+            Some(row) => Claim::Defined(self.array, row, row, Some((first, last))),
+        }
+    }
 }
 
 /// What is done with variables: in ascending order, each once.
@@ -43,14 +62,21 @@ impl<'p, 't> Program<'p, 't> {
         deeds.dedup();
         let mut claims = self.memory.none();
         for (root, deed) in &deeds {
+            let own = deeds_of(&deeds, *root);
             match deed {
                 Deed::Selects(array, by) => {
-                    let types = &self.tree.types;
-                    if let Some(values) = index_values(types, self.parts(array.root), *array) {
-                        let index = End::variable(*root).moved(*by);
-                        let own = deeds_of(&deeds, *root);
-                        self.add_stretches(&values, *array, index, own, &mut claims);
-                    }
+                    let line = Line {
+                        array: *array,
+                        row: None,
+                    };
+                    self.add_stretches(line, End::variable(*root).moved(*by), own, &mut claims);
+                }
+                Deed::SelectsIn(array, row, by) => {
+                    let line = Line {
+                        array: *array,
+                        row: Some(*row),
+                    };
+                    self.add_stretches(line, End::variable(*root).moved(*by), own, &mut claims);
                 }
                 Deed::Meets(other) => {
                     Claim::Order(*root, *other).add_to(&self.memory, &mut claims);
@@ -97,11 +123,29 @@ impl<'p, 't> Program<'p, 't> {
 
     // An element gets a value perhaps.
     fn see_store(&self, access: &Access, indexes: &[Expr], deeds: &mut Deeds) {
-        if let Some(array) = array_accessed(self.parts(access.root), access)
+        let parts = self.parts(access.root);
+        if let Some(array) = array_accessed(parts, access)
             && let Some(index) = indexes.last()
             && let Some(index) = End::of(self.rows, index)
-            && let Some(root) = index.root
         {
+            self.see_index(array, index, deeds);
+        }
+        if let Some(matrix) = matrix_accessed(parts, access)
+            && let [.., row, index] = indexes
+            && let Some(row) = End::of(self.rows, row)
+            && let Some(index) = End::of(self.rows, index)
+        {
+            self.see_index(matrix, row, deeds);
+            if let Some(root) = index.root {
+                self.memory
+                    .push(deeds, (root, Deed::SelectsIn(matrix, row, index.number)));
+            }
+        }
+    }
+
+    // An element of an array gets a value at an index, or a part of the element.
+    fn see_index(&self, array: Array, index: End, deeds: &mut Deeds) {
+        if let Some(root) = index.root {
             self.memory
                 .push(deeds, (root, Deed::Selects(array, index.number)));
         }
@@ -139,17 +183,19 @@ impl<'p, 't> Program<'p, 't> {
         self.memory.push(deeds, (head.control, runs));
     }
 
-    // Stretches that a store lengthens to an array at an index, by what is done with the variable of that: from where
-    // it rises up to the index, from behind that up to where it falls from, and all over which it runs.
+    // Stretches that a store at an index lengthens, by what is done with the variable of that: from where it rises up
+    // to the index, from behind that up to where it falls from, and all over which it runs.
     fn add_stretches(
         &self,
-        values: &Interval,
-        array: Array,
+        line: Line,
         index: End,
         deeds: &[(u32, Deed)],
         claims: &mut Vec<Claim>,
     ) {
         let memory = &self.memory;
+        let Some(values) = index_values(&self.tree.types, self.parts(line.array.root), line) else {
+            return;
+        };
         let by = index.number;
         let (mut indexes, mut lows, mut highs) = (memory.none(), memory.none(), memory.none());
         memory.push(&mut indexes, index);
@@ -159,21 +205,22 @@ impl<'p, 't> Program<'p, 't> {
             match deed {
                 Deed::Copied(back) => memory.push(&mut indexes, back.moved(by)),
                 Deed::Runs(low, high) => {
-                    Claim::Stretch(array, low.moved(by), high.moved(by)).add_to(memory, claims);
+                    line.stretch(low.moved(by), high.moved(by))
+                        .add_to(memory, claims);
                 }
                 Deed::Rises(low) => memory.push(&mut lows, low.moved(by)),
                 Deed::Falls(high) => memory.push(&mut highs, high.moved(by)),
-                Deed::Selects(..) | Deed::Meets(_) => {}
+                Deed::Selects(..) | Deed::Meets(_) | Deed::SelectsIn(..) => {}
             }
         }
         lows.retain(|low| low.root.is_some() || values.has(low.number));
         for index in indexes {
             for low in &lows {
-                Claim::Stretch(array, *low, index.moved(-1)).add_to(memory, claims);
-                Claim::Stretch(array, *low, index).add_to(memory, claims);
+                line.stretch(*low, index.moved(-1)).add_to(memory, claims);
+                line.stretch(*low, index).add_to(memory, claims);
             }
             for high in &highs {
-                Claim::Stretch(array, index.moved(1), *high).add_to(memory, claims);
+                line.stretch(index.moved(1), *high).add_to(memory, claims);
             }
         }
     }
@@ -187,9 +234,13 @@ fn deeds_of(deeds: &[(u32, Deed)], root: u32) -> &[(u32, Deed)] {
     deeds.get(first..end).unwrap_or(&[])
 }
 
-// The values of the index type of an array.
-fn index_values(types: &TypeTable, parts: &[Part], array: Array) -> Option<Interval> {
-    let elements = types.element(parts.get(array.part)?.type_id)?;
+// The values of the index type of an array, or of its rows.
+fn index_values(types: &TypeTable, parts: &[Part], line: Line) -> Option<Interval> {
+    let outer = types.element(parts.get(line.array.part)?.type_id)?;
+    let elements = match line.row {
+        None => outer,
+        Some(_) => types.element(outer.type_id)?,
+    };
     Some(limits(elements.range))
 }
 

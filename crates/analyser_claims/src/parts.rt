@@ -119,10 +119,27 @@ fn add_inner(memory: &Memory, types: &TypeTable, parts: &mut Vec<Part>, place: u
 
 /// The array of which an element is accessed by the last index and no other; `None` where the access is another one.
 pub(crate) fn array_accessed(parts: &[Part], access: &Access) -> Option<Array> {
-    let (last, selectors) = access.selectors.split_last()?;
-    if let Selector::Field { .. } = last {
-        return None;
+    array_before(parts, access, before_element(&access.selectors)?)
+}
+
+/// The array of arrays of which an element is accessed by the last two indexes, one right behind the other, and no
+/// others; `None` likewise.
+pub(crate) fn matrix_accessed(parts: &[Part], access: &Access) -> Option<Array> {
+    let selectors = before_element(&access.selectors)?;
+    array_before(parts, access, before_element(selectors)?)
+}
+
+// What stands before an index that comes last.
+fn before_element(selectors: &[Selector]) -> Option<&[Selector]> {
+    let (last, selectors) = selectors.split_last()?;
+    match last {
+        Selector::Element { .. } => Some(selectors),
+        Selector::Field { .. } => None,
     }
+}
+
+// The part to which the first selectors of an access lead, all by fields.
+fn array_before(parts: &[Part], access: &Access, selectors: &[Selector]) -> Option<Array> {
     let mut part = Some(0);
     if let Base::Record { path, .. } = &access.base {
         for step in path {

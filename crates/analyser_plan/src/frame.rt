@@ -170,7 +170,7 @@ pub(crate) fn frame(
         }
     }
     Certificate {
-        version: Version::One,
+        version: Version::Two,
         sections,
     }
 }

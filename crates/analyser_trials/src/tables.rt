@@ -209,7 +209,7 @@ fn row_told(alloc: Global, row: &Row) -> Result<String, AllocError> {
         facts: facts_of(alloc, claims)?,
         table: Table::new(alloc, claims.len())?,
     };
-    let mut state = State::of_types(alloc, Version::One, &rows);
+    let mut state = State::of_types(alloc, Version::Two, &rows);
     let mut told = String::new(alloc);
     for event in events {
         told.push_str(place.happen(*event, &mut state, &rows, &ladders))?;
@@ -346,7 +346,7 @@ fn takes_what_is_passed(rt: HostRuntime) -> Result<(), Fail> {
     let alloc = rt.alloc();
     let tree = tree(alloc)?;
     let rows = Rows::of(alloc, &tree)?;
-    let state = State::of_types(alloc, Version::One, &rows);
+    let state = State::of_types(alloc, Version::Two, &rows);
     let range = Interval::between(3, 4);
     let actuals = vec![in alloc; Actual::Value { range, form: None }]?;
     let bindings = Bindings {

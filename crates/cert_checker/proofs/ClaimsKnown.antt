@@ -1,5 +1,5 @@
 -- The claims of a certificate that names what the program has name what they may: what a caller may know, and at the end of a block its own result.
-use Rattle.std.proofs.Common.{arith, ◌≡◌, ⊎_elim, inl, inr, ◌∙◌, sym, ap, refl, subst, ℕ, suc, Bool, true, false, cond, not}
+use Rattle.std.proofs.Common.{arith, ◌≡◌, ⊎_elim, inl, inr, ◌∙◌, sym, ap, ap₂, refl, subst, ℕ, suc, Bool, true, false, cond, not}
 use Rattle.std.proofs.Common.{◌&&◌, ◌||◌, nat_eq, List, [], ◌∷◌, ◌++◌, length, map}
 use Rattle.std.specs.List.{Contains, list_all, range_with_len}
 use Rattle.std.specs.Prelude.{nat_lt, slice_get}
@@ -16,8 +16,9 @@ use Rattle.certificate.specs.declared.facts.Fact.TheVariants as kept
 use Rattle.certificate.specs.Contents.{contents, is_empty, said_fact, section_of}
 use Rattle.domain.specs.declared.facts.Bound.{Bound as KeptBound}
 use Rattle.domain.specs.declared.facts.Bound.TheVariants as kept_bound
+use Rattle.domain.specs.declared.facts.Span.{Span as KeptSpan}
 use Rattle.domain.specs.declared.facts.Spans.TheVariants as kept_spans
-use Rattle.domain.specs.Facts.{Fact, said_bound}
+use Rattle.domain.specs.Facts.{Fact, said_bound, said_span}
 use Rattle.checker_state.specs.Loops.{is_among}
 use Rattle.certificate.specs.declared.AliasPair.{AliasPair}
 use Rattle.certificate.specs.Contents.{Section}
@@ -32,7 +33,7 @@ use Rattle.checker_calls.proofs.Headings.{one-there}
 use Rattle.checker_calls.proofs.Parameters.{IsOutward}
 use Rattle.checker_calls.specs.Names.{block_is_known, bound_roots, exit_is_known, fact_is_known, fact_is_on, fact_roots}
 use Rattle.checker_calls.specs.Names.{has_parameter, is_changed_value, pair_is_known}
-use Rattle.checker_calls.specs.Names.{is_known, is_lasting, is_of_loops, is_outward, is_own_result, section_is_known}
+use Rattle.checker_calls.specs.Names.{is_known, is_lasting, is_of_loops, is_outward, is_own_result, section_is_known, span_roots}
 use Rattle.checker_expressions.proofs.Sound.{World}
 use Rattle.checker_expressions.proofs.CallLaws.{AreClaims}
 
@@ -71,13 +72,17 @@ bounds-same : (bound : KeptBound) → given.bound_roots (said_bound bound) ≡ b
 bounds-same (kept_bound.Number n) = refl
 bounds-same (kept_bound.Plus root n) = refl
 
+span-same : (span : KeptSpan) → given.span_roots (said_span span) ≡ span_roots span
+span-same span = ap₂ (λ (first last : List ℕ). first ++ last) (bounds-same span.first) (bounds-same span.last)
+
 roots-same : (one : KeptFact) → given.fact_roots (said_fact one) ≡ fact_roots one
 roots-same (kept.Range path range) = refl
 roots-same (kept.Defined path kept_spans.None) = refl
 roots-same (kept.Defined path (kept_spans.One span)) =
-    ap (λ (roots : List ℕ). path.root ∷ roots) (append-nil (given.bound_roots (said_bound span.first) ++ given.bound_roots (said_bound span.last)))
-    ∙ ap (λ (roots : List ℕ). path.root ∷ (roots ++ given.bound_roots (said_bound span.last))) (bounds-same span.first)
-    ∙ ap (λ (roots : List ℕ). path.root ∷ (bound_roots span.first ++ roots)) (bounds-same span.last)
+    ap (λ (roots : List ℕ). path.root ∷ roots) (append-nil (given.span_roots (said_span span)) ∙ span-same span)
+roots-same (kept.Defined path (kept_spans.Two span inner)) =
+    ap (λ (roots : List ℕ). path.root ∷ roots)
+    (ap₂ (λ (first next : List ℕ). first ++ next) (span-same span) (append-nil (given.span_roots (said_span inner)) ∙ span-same inner))
 roots-same (kept.Order root other n) = refl
 
 -- the variables that a fact names pass a test
@@ -102,6 +107,7 @@ own-known : (tree : Tree) (block : ℕ) (one : KeptFact) → is_own_result tree 
 own-known tree block (kept.Range path range) is = result-known tree block path.root is
 own-known tree block (kept.Defined path kept_spans.None) is = result-known tree block path.root is
 own-known tree block (kept.Defined path (kept_spans.One span)) is = absurd (false≢true is)
+own-known tree block (kept.Defined path (kept_spans.Two span inner)) is = absurd (false≢true is)
 own-known tree block (kept.Order root other n) is = absurd (false≢true is)
 
 -- what is known where it ends

@@ -65,7 +65,8 @@ use Rattle.checker_expressions.specs.declared.fault.Rule.TheVariants.{Aliases, C
 use Rattle.checker_expressions.specs.Walk.{Combination, Context, Gathering, Joint, PassedPiece, Piece, Walking, ◌>>=◌, access_walk, actuals_hold_call}
 use Rattle.checker_expressions.specs.Walk.{actuals_walk, around_of, behind_next, breach_unless, calculated, calculated_both, call_walk, called, called_block}
 use Rattle.checker_expressions.specs.Walk.{combined, deeper, divides, form_before, gathered, gathered_by, in_turn, index_pieces, index_test}
-use Rattle.checker_expressions.specs.Walk.{indexes_walk, joint_of, link_step, link_walk, may_change, members_walk, next_test, none_gathered, of_both, operated}
+use Rattle.checker_expressions.specs.Walk.{indexes_walk, is_kept, joint_of, link_step, link_walk, may_change, members_walk, next_test, none_gathered}
+use Rattle.checker_expressions.specs.Walk.{of_both, operated}
 use Rattle.checker_expressions.specs.Walk.{parameter_walk, parameters_of, passed_piece_of, passed_step, piece_of, piece_step, reach_at, result_of, result_walk}
 use Rattle.checker_expressions.specs.Walk.{unless_overflow, value_walk, whole_walk, width_walk, written_walk}
 use Rattle.cert_checker.proofs.PlainLists.{AreWide, ArePassedTo, IsPassedTo, IsPlain, at, call-may, entry-none, of_block, separate}
@@ -181,7 +182,7 @@ module _ (tree : Tree) (certificate : Certificate) (plain : IsPlain tree certifi
       let context = here rounds in
       let first = piece.walk context state in
       let test = index_test (next_test selectors) first.value context first.after in
-      let next = deeper (record { form = form_before context piece pieces; range = test.value }) reach in
+      let next = deeper (is_kept context.version selectors) (record { form = form_before context piece pieces; range = test.value }) reach in
       let rest = indexes_walk (behind_next selectors) pieces next context test.after in
       none-more first.broken (test.broken ++ rest.broken) (all.0 rounds wide state)
       (none-more test.broken rest.broken (tested-silent (next_test selectors) first.value context first.after)

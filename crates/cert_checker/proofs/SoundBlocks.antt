@@ -281,7 +281,7 @@ module _ (tree : Tree) (certificate : Certificate) (unbroken : (program_walk tre
 
     exit-holds : (store : Store) → HoldNumbers (is_ordinal_variable tree) (moment visible store)
         → Knows (parts_in world) (variables_in world) visible used.after store → AllHold tree claims.exit visible store
-    exit-holds store numbers known = given-claims tree visible used.after store claims.exit numbers known exit-given
+    exit-holds store numbers known = given-claims tree visible used.after store numbers known claims.exit exit-given
 
     module _ (t : effect.State) (here : Here world number visible (within number) body.after t) where
       -- its ordinal variables have numbers there

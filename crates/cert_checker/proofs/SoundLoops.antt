@@ -368,7 +368,7 @@ module _ {A : Type 0} (world : World) (block : ℕ) (env : Environment) (few : �
   given-there : (given_state : State) (store : Store) → Typed world.tree store → Knows (parts_in world) (variables_in world) env given_state store
       → gives_claims context.tree given_state facts ≡ true → AllHold world.tree facts env store
   given-there given_state store typed known given =
-      given-claims world.tree env given_state store facts (hold-numbers world.tree world.pairs block few env store proper typed) known
+      given-claims world.tree env given_state store (hold-numbers world.tree world.pairs block few env store proper typed) known facts
       (subst (λ (tree : Tree). gives_claims tree given_state facts ≡ true) stands.goes.tree_is given)
 
   -- behind a round

@@ -5,7 +5,7 @@ use Rattle.std.specs.Prelude.{map, slice_index_or}
 use Rattle.std.specs.List.{Contains}
 use Rattle.std.proofs.lemmas.Bool.{false≢true}
 use Rattle.std.proofs.lemmas.List.{length-map}
-use Rattle.std.proofs.lemmas.Option.{same_Some}
+use Rattle.std.proofs.lemmas.Option.{none-some, same_Some}
 use Rattle.types.specs.declared.form.Step.{Step}
 use Rattle.typed_tree.specs.declared.tree.Selector.{Selector}
 use Rattle.typed_tree.specs.declared.tree.Tree.{Tree}
@@ -17,7 +17,7 @@ use Rattle.meaning.specs.Store as store
 use Rattle.checker_state.specs.Holds.{IsIn, IsOfRow, component_at, moment, value_at}
 use Rattle.checker_state.proofs.Apart.{part}
 use Rattle.checker_rows.specs.Rows.{Parts, all_parts, indexes_of, no_parts, rows_of, type_at}
-use Rattle.checker_state.specs.Stores.{Index, Reach, all_stored, with_joined}
+use Rattle.checker_state.specs.Stores.{Index, Reach, all_stored, with_both, with_joined}
 use Rattle.checker_state.specs.Knows.{AreIndexes, AreRows, AreStored, BeginWith, IsFormApart, IsLooseIn, IsReach, IsReachApart, IsReached, Knows}
 use Rattle.checker_state.specs.State.{State, Table}
 use Rattle.checker_state.proofs.Stored.{formless-hold, stores-hold}
@@ -127,12 +127,31 @@ abbrev pub AreFormed : List Index → Type 0
 AreFormed [] = Unit {0}
 AreFormed (index ∷ indexes) = ((b : Bound) × (index.form ≡ Some b)) × AreFormed indexes
 
--- of two indexes and more a store tells as if only some were reached
-deep-same : (one two : Index) (more : List Index) (stores : Stores) (state : State)
-    → all_stored (record { indexes = one ∷ two ∷ more; is_all = true }) stores state
-    ≡ all_stored (record { indexes = one ∷ two ∷ more; is_all = false }) stores state
-deep-same one two more [] state = refl
-deep-same one two more (store ∷ stores) state = deep-same one two more stores (with_joined store.0 store.1 state)
+-- of three indexes and more a store tells as if only some were reached
+deep-same : (one two three : Index) (more : List Index) (stores : Stores) (state : State)
+    → all_stored (record { indexes = one ∷ two ∷ three ∷ more; is_all = true }) stores state
+    ≡ all_stored (record { indexes = one ∷ two ∷ three ∷ more; is_all = false }) stores state
+deep-same one two three more [] state = refl
+deep-same one two three more (store ∷ stores) state = deep-same one two three more stores (with_joined store.0 store.1 state)
+
+-- so it does of two, of which one has no form
+two-same : (one two : Index) → ((row : ℕ) (state : State) → with_both row one.form two.form state ≡ state) → (stores : Stores) (state : State)
+    → all_stored (record { indexes = one ∷ two ∷ []; is_all = true }) stores state
+    ≡ all_stored (record { indexes = one ∷ two ∷ []; is_all = false }) stores state
+two-same one two nothing [] state = refl
+two-same one two nothing (store ∷ stores) state =
+    let joined_one = with_joined store.0 store.1 state in
+    ap (λ (s : State). all_stored (record { indexes = one ∷ two ∷ []; is_all = true }) stores s) (nothing store.0 joined_one)
+    ∙ two-same one two nothing stores joined_one
+
+no-first : (one two : Option Bound) → one ≡ None → (row : ℕ) (state : State) → with_both row one two state ≡ state
+no-first None two none row state = refl
+no-first (Some b) two none row state = absurd (none-some b (sym none))
+
+no-second : (one two : Option Bound) → two ≡ None → (row : ℕ) (state : State) → with_both row one two state ≡ state
+no-second None None none row state = refl
+no-second (Some b) None none row state = refl
+no-second one (Some b) none row state = absurd (none-some b (sym none))
 
 module _ (rows : List Parts) (table : Table) (rows_are : AreRows rows table) (env : Environment) (aliases : List ℕ) (root : ℕ) (home : Place)
     (at : env.variables root ≡ Some home) (pairs : Pairs) (stores : Stores) (before after : Store) (targets : AreTargets rows root pairs stores)
@@ -152,6 +171,23 @@ module _ (rows : List Parts) (table : Table) (rows_are : AreRows rows table) (en
       by-law (record { indexes = indexes; is_all = false }) (λ all. absurd (false≢true all)) (λ all. absurd (false≢true all))
       (λ one steps inside of_row is. absurd (false≢true is.0))
 
+  -- where all of two indexes is reached
+  two-known : (one two : Index) → IsReach env before (record { indexes = one ∷ two ∷ []; is_all = true })
+      → IsReachApart aliases (record { indexes = one ∷ two ∷ []; is_all = true })
+      → (AreFormed (one ∷ two ∷ []) → AreReached rows env (record { indexes = one ∷ two ∷ []; is_all = true }) pairs stores before)
+      → Known (record { indexes = one ∷ two ∷ []; is_all = true })
+  two-known one two is free reached = by one.form two.form refl refl
+    where
+      formless : ((row : ℕ) (s : State) → with_both row one.form two.form s ≡ s) → Known (record { indexes = one ∷ two ∷ []; is_all = true })
+      formless nothing =
+          subst (λ (s : State). Knows rows table.variables env s after) (sym (two-same one two nothing stores state)) (by-some (one ∷ two ∷ []))
+
+      by : (form inner : Option Bound) → one.form ≡ form → two.form ≡ inner → Known (record { indexes = one ∷ two ∷ []; is_all = true })
+      by None inner form_is inner_is = formless (no-first one.form two.form form_is)
+      by (Some b) None form_is inner_is = formless (no-second one.form two.form inner_is)
+      by (Some b) (Some c) form_is inner_is =
+          by-law (record { indexes = one ∷ two ∷ []; is_all = true }) is free (reached ((b, form_is), ((c, inner_is), tt)))
+
   -- behind stores to what is reached
   pub stored-known : (reach : Reach) → IsReach env before reach → IsReachApart aliases reach
       → (AreFormed reach.indexes → AreReached rows env reach pairs stores before) → Known reach
@@ -163,8 +199,9 @@ module _ (rows : List Parts) (table : Table) (rows_are : AreRows rows table) (en
           → Known (record { indexes = indexes; is_all = all })
       by false indexes is free reached = by-some indexes
       by true [] is free reached = by-law (record { indexes = []; is_all = true }) is free (reached tt)
-      by true (one ∷ two ∷ more) is free reached =
-          subst (λ (s : State). Knows rows table.variables env s after) (sym (deep-same one two more stores state)) (by-some (one ∷ two ∷ more))
+      by true (one ∷ two ∷ []) is free reached = two-known one two is free reached
+      by true (one ∷ two ∷ three ∷ more) is free reached =
+          subst (λ (s : State). Knows rows table.variables env s after) (sym (deep-same one two three more stores state)) (by-some (one ∷ two ∷ three ∷ more))
       by true (index ∷ []) is free reached = formed index.form refl
         where
           formed : (form : Option Bound) → index.form ≡ form → Known (record { indexes = index ∷ []; is_all = true })

@@ -5,9 +5,9 @@ ghost use Rattle.std.specs.List.{list_all};
 ghost use Rattle.types.specs.Types.{is_scalar};
 ghost use Rattle.checker_calls.specs.Names.{block_is_known, bound_is_known, bound_roots, claims_are_known};
 ghost use Rattle.checker_calls.specs.Names.{exit_is_known, fact_is_known, fact_is_on, fact_roots, has_indexes};
-ghost use Rattle.checker_calls.specs.Names.{has_parameter, is_array, is_known, spans_are_known, spans_roots};
-ghost use Rattle.checker_calls.specs.Names.{is_of_loops, is_own_result, is_round_about, names, pair_is_known};
-ghost use Rattle.checker_calls.specs.Names.{section_is_known, stands_in};
+ghost use Rattle.checker_calls.specs.Names.{has_parameter, is_array, is_known, is_matrix, is_of_loops, is_own_result};
+ghost use Rattle.checker_calls.specs.Names.{is_round_about, names, pair_is_known, section_is_known, span_is_known};
+ghost use Rattle.checker_calls.specs.Names.{span_roots, spans_are_known, spans_roots, stands_in};
 ghost use Rattle.cert_checker.specs.NamesView.{may_name};
 
 use certificate::{AliasPair, Certificate, Fact, LoopClaims, Section};
@@ -15,7 +15,7 @@ use checker_calls::visible::{
     is_outward, is_result, is_value_parameter, is_variable_parameter, is_visible,
 };
 use checker_rows::Rows;
-use domain::facts::{Bound, Path, Spans};
+use domain::facts::{Bound, Path, Span, Spans};
 use typed_tree::tree::Tree;
 use types::{TypeForm, TypeId, TypeTable};
 
@@ -124,7 +124,7 @@ fn is_own_result(tree: &Tree, block: u32, fact: &Fact) -> bool
         Fact::Range { path, .. } => is_result(tree, block, path.root),
         Fact::Defined { path, spans } => match spans {
             Spans::None => is_result(tree, block, path.root),
-            Spans::One(_) => false,
+            Spans::One(_) | Spans::Two(_, _) => false,
         },
         Fact::Order { .. } => false,
     }
@@ -230,11 +230,17 @@ fn spans_name(tree: &Tree, block: u32, nameable: Nameable, spans: Spans) -> bool
 {
     match spans {
         Spans::None => true,
-        Spans::One(span) => {
-            bound_names(tree, block, nameable, span.first)
-                && bound_names(tree, block, nameable, span.last)
+        Spans::One(span) => span_names(tree, block, nameable, span),
+        Spans::Two(span, inner) => {
+            span_names(tree, block, nameable, span) && span_names(tree, block, nameable, inner)
         }
     }
+}
+
+fn span_names(tree: &Tree, block: u32, nameable: Nameable, span: Span) -> bool
+    ensures { result ≡ list_all (may_name tree.now block nameable.entry) (span_roots span) }
+{
+    bound_names(tree, block, nameable, span.first) && bound_names(tree, block, nameable, span.last)
 }
 
 fn bound_names(tree: &Tree, block: u32, nameable: Nameable, bound: Bound) -> bool
@@ -286,6 +292,17 @@ fn has_indexes(types: &TypeTable, spans: Spans, id: TypeId) -> bool
     match spans {
         Spans::None => true,
         Spans::One(_) => is_array(types, id),
+        Spans::Two(_, _) => is_matrix(types, id),
+    }
+}
+
+/// Whether the elements of a type are arrays.
+fn is_matrix(types: &TypeTable, id: TypeId) -> bool
+    ensures { result ≡ is_matrix types.now id }
+{
+    match types.form(id) {
+        Some(TypeForm::Array { element, .. }) => is_array(types, *element),
+        _ => false,
     }
 }
 
@@ -303,8 +320,15 @@ fn spans_are_known(rows: &Rows, spans: Spans) -> bool
 {
     match spans {
         Spans::None => true,
-        Spans::One(span) => bound_is_known(rows, span.first) && bound_is_known(rows, span.last),
+        Spans::One(span) => span_is_known(rows, span),
+        Spans::Two(span, inner) => span_is_known(rows, span) && span_is_known(rows, inner),
     }
+}
+
+fn span_is_known(rows: &Rows, span: Span) -> bool
+    ensures { result ≡ span_is_known rows.now span }
+{
+    bound_is_known(rows, span.first) && bound_is_known(rows, span.last)
 }
 
 /// Whether the variable of a bound, if it has one, is there and of an ordinal type.

@@ -23,7 +23,7 @@ use Rattle.certificate.specs.Lines.{reading, spanned_fact}
 use Rattle.certificate.specs.Paths.{path_words}
 use Rattle.certificate.specs.Text.{lines}
 use Rattle.certificate.specs.Words.{variable}
-use Rattle.certificate.proofs.BoundLaws.{spans_above, spans_again}
+use Rattle.certificate.proofs.SpanLaws.{spans_above, spans_again}
 use Rattle.certificate.proofs.Numerals.{constant_again}
 use Rattle.certificate.proofs.PathLaws.{path_above, path_again}
 use Rattle.certificate.proofs.WordLaws.{are_above, above_append, blank_found, blank_missed, constant_above, drop_past, number_above, number_again}

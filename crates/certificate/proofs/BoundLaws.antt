@@ -1,25 +1,23 @@
--- Bounds and spans, and their words.
+-- Bounds, and their words.
 use Rattle.std.proofs.Common.{◌≡◌, ℕ, suc, ◌+◌, ◌<◌, ℤ, pos, negsuc, Bool, true, false, cond, not, int_lt, List, [], ◌∷◌, ◌++◌, length, take, drop}
-use Rattle.std.proofs.Common.{Result, Ok, Err, nat_le, refl, sym, ap, subst, ◌∙◌, arith, inl, inr, decimal, codes}
+use Rattle.std.proofs.Common.{Result, Ok, Err, refl, sym, ap, subst, ◌∙◌, arith, inl, inr, decimal, codes}
 use Rattle.std.specs.Char.{is_ascii_digit}
 use Rattle.std.specs.Fmt.{signed_decimal}
-use Rattle.std.specs.List.{flat_map, list_all, position_or_len}
+use Rattle.std.specs.List.{list_all, position_or_len}
 use Rattle.std.proofs.lemmas.Bool.{and_from, and_parts}
 use Rattle.std.proofs.lemmas.Bool.Decides.{nat_tests}
 use Rattle.std.proofs.lemmas.Fmt.{digits_decimal}
-use Rattle.std.proofs.lemmas.List.{append-nil, take-append-drop, take_at}
-use Rattle.domain.specs.Facts.{Bound, Number, Plus, Span}
-use Rattle.domain.specs.declared.versions.Version.{Version}
-use Rattle.domain.specs.declared.versions.Version.TheVariants.{One}
+use Rattle.std.proofs.lemmas.List.{take-append-drop, take_at}
+use Rattle.domain.specs.Facts.{Bound, Number, Plus}
 use Rattle.certificate.specs.declared.words.LineFault.{LineFault}
 use Rattle.certificate.specs.declared.words.LineFault.TheVariants.{NotInGrammar}
-use Rattle.certificate.specs.Bounds.{bound_of, bound_words, is_sign, offset, offset_of, plus_at, span_of, span_words, spans_of}
-use Rattle.certificate.specs.Contents.{are_spans, is_bound, is_constant, is_small, is_span}
-use Rattle.certificate.specs.Words.{◌>>=◌, behind, both, constant_of, lowered_of, parted, positive_of, variable, variable_of}
-use Rattle.certificate.proofs.Numerals.{behind_some, below_zero, bound_ok, constant_again, constant_spelled, lowered_again, lowered_read, negative_spelled}
-use Rattle.certificate.proofs.Numerals.{no_beginning, not_below_zero, ok_is, own, positive_again, positive_spelled, when_ok}
+use Rattle.certificate.specs.Bounds.{bound_of, bound_words, is_sign, offset, offset_of, plus_at}
+use Rattle.certificate.specs.Contents.{is_bound, is_constant, is_small}
+use Rattle.certificate.specs.Words.{◌>>=◌, behind, both, constant_of, lowered_of, positive_of, variable, variable_of}
+use Rattle.certificate.proofs.Numerals.{behind_some, below_zero, bound_ok, constant_again, constant_spelled, lowered_again, lowered_read}
+use Rattle.certificate.proofs.Numerals.{negative_spelled, no_beginning, not_below_zero, ok_is, own, positive_again, positive_spelled, when_ok}
 use Rattle.certificate.proofs.WordLaws.{are_above, above_append, both_ok, byte_above, constant_above, small_is, variable_above, variable_again}
-use Rattle.certificate.proofs.WordLaws.{parted_again, parted_spelled, variable_spelled}
+use Rattle.certificate.proofs.WordLaws.{variable_spelled}
 
 -- ---- what is read is spelled so
 
@@ -142,59 +140,3 @@ bound_above limit (Number z) low fits = constant_above limit z (omega arith) fit
 bound_above limit (Plus root z) low fits =
     let parts = and_parts (is_small root) (is_constant z) fits in
     above_append limit (variable root) (offset z) (variable_above limit root (omega arith) parts.0) (offset_above limit z low parts.1)
-
--- ---- spans
-
-span_spelled : (words : List ℕ) (span : Span) → span_of words ≡ Ok span → (32 ∷ words ≡ span_words span) × (is_span span ≡ true)
-span_spelled words span e =
-    let made : Bound × Bound → Result Span LineFault = λ bounds. Ok (record { first = bounds.0; last = bounds.1 }) in
-    let ends = bound_ok (parted words) (λ ends. both (bound_of ends.0) (bound_of ends.1) >>= made) span e in
-    let bounds = bound_ok (both (bound_of ends.0.0) (bound_of ends.0.1)) made span ends.2 in
-    let two = both_ok (bound_of ends.0.0) (bound_of ends.0.1) bounds.0.0 bounds.0.1 bounds.1 in
-    let first = bound_spelled ends.0.0 bounds.0.0 two.0 in
-    let last = bound_spelled ends.0.1 bounds.0.1 two.1 in
-    let whole = ap (λ text. 32 ∷ text) (parted_spelled words ends.0.0 ends.0.1 ends.1) ∙ ap (λ front. 32 ∷ (front ++ 32 ∷ ends.0.1)) first.0
-    ∙ ap (λ rest. 32 ∷ (bound_words bounds.0.0 ++ 32 ∷ rest)) last.0 in
-    subst (λ span. (32 ∷ words ≡ span_words span) × (is_span span ≡ true)) (ok_is (record { first = bounds.0.0; last = bounds.0.1 }) span bounds.2)
-    (whole, and_from _ _ first.1 last.1)
-
--- words that say spans are those of these spans, but for the first blank
-pub spans_spelled : (version : Version) (words : List ℕ) (spans : List Span) → spans_of version words ≡ Ok spans
-    → (32 ∷ words ≡ flat_map span_words spans) × (are_spans version spans ≡ true)
-spans_spelled One words spans e =
-    let one = bound_ok (span_of words) (λ span. Ok (span ∷ [])) spans e in
-    let told = span_spelled words one.0 one.1 in
-    subst (λ spans. (32 ∷ words ≡ flat_map span_words spans) × (are_spans One spans ≡ true)) (ok_is (one.0 ∷ []) spans one.2)
-    (told.0 ∙ sym (append-nil (span_words one.0)), and_from (is_span one.0) true told.1 refl)
-
-span_again : (span : Span) → is_span span ≡ true → span_of (bound_words span.first ++ 32 ∷ bound_words span.last) ≡ Ok span
-span_again span fits =
-    let ends = and_parts (is_bound span.first) (is_bound span.last) fits in
-    rw (
-      parted_again (bound_words span.first) (bound_words span.last) (bound_above 32 span.first (omega arith) ends.0),
-      bound_again span.first ends.0,
-      bound_again span.last ends.1,
-    ) refl
-
-one_alone : (n : ℕ) → nat_le (suc (suc n)) 1 ≡ true → ⊥
-one_alone n few = grind (arith, nat_tests)
-
--- the words of spans say these spans
-pub spans_again : (version : Version) (span : Span) (more : List Span) → are_spans version (span ∷ more) ≡ true
-    → spans_of version ((bound_words span.first ++ 32 ∷ bound_words span.last) ++ flat_map span_words more) ≡ Ok (span ∷ more)
-spans_again One span [] fits =
-    ap (spans_of One) (append-nil (bound_words span.first ++ 32 ∷ bound_words span.last))
-    ∙ rw (span_again span (and_parts (is_span span) true fits).0) refl
-spans_again One span (other ∷ more) fits =
-    absurd (one_alone (length more) (and_parts (nat_le (length (span ∷ other ∷ more)) 1) (list_all is_span (span ∷ other ∷ more)) fits).0)
-
-pub spans_above : (limit : ℕ) (spans : List Span) → limit < 32 → list_all is_span spans ≡ true → are_above limit (flat_map span_words spans) ≡ true
-spans_above limit [] low fits = refl
-spans_above limit (span ∷ more) low fits =
-    let parts = and_parts (is_span span) (list_all is_span more) fits in
-    let ends = and_parts (is_bound span.first) (is_bound span.last) parts.0 in
-    let blank = byte_above limit 32 low in
-    above_append limit (span_words span) (flat_map span_words more)
-    (and_from _ _ blank (above_append limit (bound_words span.first) _ (bound_above limit span.first (omega arith) ends.0)
-    (and_from _ _ blank (bound_above limit span.last (omega arith) ends.1))))
-    (spans_above limit more low parts.1)

@@ -1,16 +1,16 @@
 -- Lines that say something have no fault exactly where they may stand so.
-use Rattle.std.proofs.Common.{◌≡◌, ℕ, suc, Bool, true, false, ◌&&◌, List, [], ◌∷◌, map, Option, Some, None, refl, sym, ap, ◌∙◌, arith, decimal, append_assoc}
-use Rattle.std.proofs.Common.{codes}
+use Rattle.std.proofs.Common.{◌≡◌, ℕ, suc, Bool, true, false, ◌&&◌, List, [], ◌∷◌, ◌++◌, map, Option, Some, None, refl, sym, ap, ◌∙◌, arith, decimal}
+use Rattle.std.proofs.Common.{append_assoc, codes}
 use Rattle.std.specs.Bool.{if◌then◌else◌}
 use Rattle.std.specs.List.{flat_map, list_all}
 use Rattle.std.proofs.lemmas.Bool.{and_from, and_parts}
 use Rattle.domain.specs.declared.versions.Version.{Version}
-use Rattle.certificate.specs.Lines.{Claim, Alias, Change, Entry, Exit, Fact, Content, Block, Loop, Claimed, claim_words}
+use Rattle.domain.specs.declared.versions.Version.TheVariants.{One, Two}
+use Rattle.certificate.specs.Lines.{Claim, Alias, Change, Entry, Exit, Fact, Content, Block, Loop, Claimed}
 use Rattle.certificate.specs.Text.{Above}
 use Rattle.certificate.specs.declared.fault.ReadFault.{ReadFault}
 use Rattle.certificate.specs.declared.fault.ReadFault.TheVariants.{OutOfOrder}
 use Rattle.certificate.specs.Building.{is_content, said_line}
-use Rattle.domain.specs.declared.versions.Version.TheVariants.{One}
 use Rattle.std.specs.Str.{bytes_eq}
 use Rattle.certificate.specs.Contents.{ended, heading, is_small}
 use Rattle.certificate.specs.Words.{is_number}
@@ -55,17 +55,18 @@ stands number true none = refl
 stands number false none = absurd cc
 
 -- no line that says something is the heading of a text
-claim_no_heading : (version : Version) (claim : Claim) → bytes_eq (claim_words claim) (heading version) ≡ false
-claim_no_heading One (Alias pair) = refl
-claim_no_heading One (Change root) = refl
-claim_no_heading One (Entry fact) = refl
-claim_no_heading One (Exit fact) = refl
-claim_no_heading One (Fact fact) = refl
+no_heading_so : (named : List ℕ) (content : Content) → bytes_eq (line_of content) (codes "pcert " ++ named) ≡ false
+no_heading_so named (Block number) = refl
+no_heading_so named (Loop number) = refl
+no_heading_so named (Claimed (Alias pair)) = refl
+no_heading_so named (Claimed (Change root)) = refl
+no_heading_so named (Claimed (Entry fact)) = refl
+no_heading_so named (Claimed (Exit fact)) = refl
+no_heading_so named (Claimed (Fact fact)) = refl
 
 no_heading : (version : Version) (content : Content) → bytes_eq (line_of content) (heading version) ≡ false
-no_heading One (Block number) = refl
-no_heading One (Loop number) = refl
-no_heading One (Claimed claim) = claim_no_heading One claim
+no_heading One content = no_heading_so (codes "1") content
+no_heading Two content = no_heading_so (codes "2") content
 
 -- the fault of such lines goes on behind the first
 fault_step : (version : Version) (number : ℕ) (above : Above) (content : Content) (more : List Content) → list_all (is_content version) (content ∷ more) ≡ true

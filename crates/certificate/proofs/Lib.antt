@@ -11,6 +11,7 @@ pub mod PathLaws
 pub mod Pieces
 pub mod Reading
 pub mod Seen
+pub mod SpanLaws
 pub mod Spelled
 pub mod TextLines
 pub mod Whole

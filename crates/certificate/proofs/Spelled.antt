@@ -6,6 +6,7 @@ use Rattle.std.specs.List.{position}
 use Rattle.std.specs.Ordering.{int_eq}
 use Rattle.std.specs.Fmt.{signed_decimal}
 use Rattle.std.proofs.lemmas.Bool.{and_from, and_parts}
+use Rattle.std.proofs.lemmas.Bool.Decides.{nat_tests}
 use Rattle.std.proofs.lemmas.Int.{ints}
 use Rattle.std.proofs.lemmas.List.{append-nil}
 use Rattle.domain.specs.Interval.{Interval, between}
@@ -13,7 +14,6 @@ use Rattle.domain.specs.Facts.{Fact as VariableFact, Path, Span}
 use Rattle.domain.specs.Facts.{Range, Defined, Order}
 use Rattle.domain.specs.Versions.{most_spans}
 use Rattle.domain.specs.declared.versions.Version.{Version}
-use Rattle.domain.specs.declared.versions.Version.TheVariants.{One}
 use Rattle.certificate.specs.declared.words.LineFault.{LineFault}
 use Rattle.certificate.specs.declared.words.LineFault.TheVariants.{NotInGrammar, OutOfRange}
 use Rattle.certificate.specs.Bounds.{spans_of}
@@ -25,7 +25,7 @@ use Rattle.certificate.specs.Lines.{defined_at, defined_fact, fact_of, fact_word
 use Rattle.certificate.specs.Lines.{reading, spanned_fact}
 use Rattle.certificate.specs.Paths.{path_of, path_words}
 use Rattle.certificate.specs.Words.{◌>>=◌, behind, both, constant_of, number_of, parted, variable, variable_of, when}
-use Rattle.certificate.proofs.BoundLaws.{spans_spelled}
+use Rattle.certificate.proofs.SpanLaws.{spans_spelled}
 use Rattle.certificate.proofs.Numerals.{behind_some, bound_ok, constant_spelled, ok_is, when_ok}
 use Rattle.certificate.proofs.PathLaws.{path_spelled}
 use Rattle.certificate.proofs.WordLaws.{both_ok, front_part, number_spelled, parted_spelled, variable_spelled}
@@ -115,7 +115,7 @@ spanned_spelled version words path spans fact is e =
     (ap (λ more. codes "defined " ++ more) whole, and_from _ _ path_is.1 spans_are.1)
 
 none_few : (version : Version) → nat_le 0 (most_spans version) ≡ true
-none_few One = refl
+none_few version = grind (arith, nat_tests)
 
 defined_part : (version : Version) (words : List ℕ) (o : Option ℕ) (fact : VariableFact) → position (λ byte. byte == 32) words ≡ o
     → defined_at version words o ≡ Ok fact → (codes "defined " ++ words ≡ fact_words fact) × (is_fact version fact ≡ true)

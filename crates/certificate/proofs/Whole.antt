@@ -1,6 +1,6 @@
 -- A text and the certificate that it spells.
 use Rattle.std.proofs.Common.{◌≡◌, ◌≢◌, ℕ, Bool, true, false, List, [], ◌∷◌, ◌++◌, map, Option, Some, None, Result, Ok, Err, refl, sym, ap, ◌∙◌, append_assoc}
-use Rattle.std.proofs.Common.{codes}
+use Rattle.std.proofs.Common.{subst}
 use Rattle.std.specs.Bool.{if◌then◌else◌}
 use Rattle.std.specs.List.{flat_map, list_all}
 use Rattle.std.specs.Result.{IsErrAnd}
@@ -9,7 +9,7 @@ use Rattle.std.proofs.lemmas.Slice.Eq.{bytes_eq-Decides}
 use Rattle.memory.specs.Refused.{the_refusal}
 use Rattle.certificate.specs.declared.Certificate.{Certificate}
 use Rattle.domain.specs.declared.versions.Version.{Version}
-use Rattle.domain.specs.declared.versions.Version.TheVariants.{One}
+use Rattle.domain.specs.declared.versions.Version.TheVariants.{One, Two}
 use Rattle.certificate.specs.declared.fault.ReadFault.{ReadFault}
 use Rattle.certificate.specs.declared.fault.ReadFault.TheVariants as fault
 use Rattle.certificate.specs.Building.{built, is_content, said_line}
@@ -21,19 +21,23 @@ use Rattle.certificate.proofs.InOrder.{in_order, orderly}
 use Rattle.certificate.proofs.Nested.{built_again, lines_of_sections}
 use Rattle.certificate.proofs.TextLines.{unlines, unlines-lines}
 
+version_is : (named version : Version) → (let a : Result Version ReadFault = Ok named in a ≡ Ok version) → named ≡ version
+version_is named version same = cc
+
 abbrev heading_line : Version → Line
 heading_line version = record { bytes = heading version; ended = true }
 
-heading_only : (bytes : List ℕ) (same : Bool) (version : Version) → bytes_eq bytes (codes "pcert 1") ≡ same
-    → (if same then Ok One else Err (fault.FirstLine 1)) ≡ Ok version → bytes ≡ heading version
-heading_only bytes true One is named = (bytes_eq-Decides bytes (codes "pcert 1")).0 is
-heading_only bytes false version is named = absurd cc
+heading_only : (bytes : List ℕ) (one two : Bool) (version : Version) → bytes_eq bytes (heading One) ≡ one → bytes_eq bytes (heading Two) ≡ two
+    → (if one then Ok One else if two then Ok Two else Err (fault.FirstLine 1)) ≡ Ok version → bytes ≡ heading version
+heading_only bytes true two version is other named = (bytes_eq-Decides bytes (heading One)).0 is ∙ ap heading (version_is One version named)
+heading_only bytes false true version other is named = (bytes_eq-Decides bytes (heading Two)).0 is ∙ ap heading (version_is Two version named)
+heading_only bytes false false version other another named = absurd cc
 
 ended_heading : (bytes : List ℕ) (ends : Bool) (version : Version) → version_of (record { bytes = bytes; ended = ends }) ≡ Ok version
     → ◌≡◌ {A = Line} (record { bytes = bytes; ended = ends }) (heading_line version)
 ended_heading bytes true version named =
     ap (λ (b : List ℕ). let line : Line = record { bytes = b; ended = true } in line)
-    (heading_only bytes (bytes_eq bytes (codes "pcert 1")) version refl named)
+    (heading_only bytes _ _ version refl refl named)
 ended_heading bytes false version named = absurd cc
 
 unlines_said : (said : List Content) → unlines (map said_line said) ≡ flat_map (λ content. ended (line_of content)) said
@@ -46,10 +50,11 @@ unlines_said (content ∷ said) =
 text_spelled : (text : List ℕ) (first : Line) (below : List Line) (said : List Content) (version : Version) → lines text ≡ first ∷ below
     → version_of first ≡ Ok version → below ≡ map said_line said
     → text ≡ ended (heading version) ++ flat_map (λ content. ended (line_of content)) said
-text_spelled text first below said One text_is named below_is =
-    sym (unlines-lines text) ∙ ap unlines (text_is ∙ ap (λ line. line ∷ below) (ended_heading first.bytes first.ended One named)
-    ∙ ap (λ more. heading_line One ∷ more) below_is)
-    ∙ ap (λ rest. codes "pcert 1" ++ 10 ∷ rest) (unlines_said said)
+text_spelled text first below said version text_is named below_is =
+    sym (unlines-lines text) ∙ ap unlines (text_is ∙ ap (λ line. line ∷ below) (ended_heading first.bytes first.ended version named)
+    ∙ ap (λ more. heading_line version ∷ more) below_is)
+    ∙ ap (λ rest. heading version ++ 10 ∷ rest) (unlines_said said)
+    ∙ sym (append_assoc (heading version) (10 ∷ []) (flat_map (λ content. ended (line_of content)) said))
 
 -- sections that are read are in order, and the text is their spelling
 pub read_exactly : (text : List ℕ) (first : Line) (below : List Line) (said : List Content) (sections : List Section) (version : Version)
@@ -66,16 +71,24 @@ read_exactly text first below said sections version text_is named none fits belo
           ∙ ap (λ c. ended (heading version) ++ flat_map (λ content. ended (line_of content)) c) said_are,
     )
 
+heading_first : (version : Version) (rest : List ℕ) → lines (ended (heading version) ++ rest) ≡ heading_line version ∷ lines rest
+heading_first One rest = refl
+heading_first Two rest = refl
+
 -- the lines of a spelling
 spelling_lines : (version : Version) (sections : List Section) → are_in_order version sections ≡ true
     → (orderly version nothing (lines_of sections) ≡ true)
     × (lines (spelling version sections) ≡ heading_line version ∷ map said_line (lines_of sections))
-spelling_lines One sections right =
-    let orders = in_order One sections ∙ right in
-    (orders, ap (λ rest. heading_line One ∷ rest) (lines_again One (lines_of sections) (orderly-fits One nothing (lines_of sections) orders)))
+spelling_lines version sections right =
+    let orders = in_order version sections ∙ right in (
+      orders,
+      heading_first version (flat_map (λ content. ended (line_of content)) (lines_of sections))
+          ∙ ap (λ rest. heading_line version ∷ rest) (lines_again version (lines_of sections) (orderly-fits version nothing (lines_of sections) orders)),
+    )
 
 named_again : (version : Version) → version_of (heading_line version) ≡ Ok version
 named_again One = refl
+named_again Two = refl
 
 spelling_faultless : (version : Version) (sections : List Section) → are_in_order version sections ≡ true → first_fault (spelling version sections) ≡ None
 spelling_faultless version sections right =
@@ -101,16 +114,19 @@ pub refused_for_memory : (error : ReadFault) (text : List ℕ) (version : Versio
 refused_for_memory error text version sections told right text_is =
     only_memory error (λ other. told other ∙ ap first_fault text_is ∙ spelling_faultless version sections right)
 
--- sections that are read from the spelling of others are these
+-- sections that are read from the spelling of others are these, and their version is
 pub read_only : (text : List ℕ) (first : Line) (below : List Line) (said : List Content) (sections others : List Section) (named version : Version)
     → lines text ≡ first ∷ below → version_of first ≡ Ok named → list_all (is_content named) said ≡ true → below ≡ map said_line said
-    → sections ≡ built [] said → are_in_order version others ≡ true → text ≡ spelling version others → sections ≡ others
-read_only text first below said sections others One One text_is named fits below_is built_is right spelled =
-    let told = spelling_lines One others right in
-    let all : first ∷ below ≡ heading_line One ∷ map said_line (lines_of others) = sym text_is ∙ ap lines spelled ∙ told.1 in
+    → sections ≡ built [] said → are_in_order version others ≡ true → text ≡ spelling version others → (named ≡ version) × (sections ≡ others)
+read_only text first below said sections others named version text_is named_is fits below_is built_is right spelled =
+    let told = spelling_lines version others right in
+    let all : first ∷ below ≡ heading_line version ∷ map said_line (lines_of others) = sym text_is ∙ ap lines spelled ∙ told.1 in
     let rest : below ≡ map said_line (lines_of others) = cc in
-    let same = same_lines One said (lines_of others) fits (orderly-fits One nothing (lines_of others) told.0) (sym below_is ∙ rest) in
-    built_is ∙ ap (built []) same ∙ built_again others
+    let head : first ≡ heading_line version = cc in
+    let one = version_is named version (sym named_is ∙ ap version_of head ∙ named_again version) in
+    let these_fit = subst (λ version. list_all (is_content version) said ≡ true) one fits in
+    let same = same_lines version said (lines_of others) these_fit (orderly-fits version nothing (lines_of others) told.0) (sym below_is ∙ rest) in
+    (one, built_is ∙ ap (built []) same ∙ built_again others)
 
 -- a fault below a heading is the text's first, and so is one of a heading
 pub fault_below : (text : List ℕ) (first : Line) (below : List Line) (version : Version) (error : ReadFault) → lines text ≡ first ∷ below
@@ -123,7 +139,7 @@ pub fault_of_heading : (text : List ℕ) (first : Line) (below : List Line) (err
 fault_of_heading text first below error text_is unnamed =
     sym (ap fault_of_lines text_is ∙ ap (λ one. fault_behind one below) unnamed)
 
-pub error_only : (sections : List Section) (answer : Result Certificate ReadFault) (error : ReadFault) → IsErrAnd answer (λ given. given ≡ error)
-    → error ≡ fault.Memory the_refusal → IsReadAs sections answer
-error_only sections (Ok certificate) error is only = absurd is
-error_only sections (Err given) error is only = is ∙ only
+pub error_only : (version : Version) (sections : List Section) (answer : Result Certificate ReadFault) (error : ReadFault)
+    → IsErrAnd answer (λ given. given ≡ error) → error ≡ fault.Memory the_refusal → IsReadAs version sections answer
+error_only version sections (Ok certificate) error is only = absurd is
+error_only version sections (Err given) error is only = is ∙ only

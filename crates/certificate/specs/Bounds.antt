@@ -1,12 +1,12 @@
 -- Bounds and spans in a certificate's lines: how they are spelled, and what is read of words. ISO 7185:1990 knows no
 -- bounds. It does not say what number a bound is.
-use Rattle.std.specs.Prelude.{ℕ, ℤ, pos, int_lt, Bool, ◌||◌, ◌==◌, if◌then◌else◌, List, [], ◌∷◌, ◌++◌, take, drop}
-use Rattle.std.specs.Prelude.{Result, Ok, Err, codes}
+use Rattle.std.specs.Prelude.{ℕ, zero, suc, ℤ, pos, int_lt, Bool, ◌||◌, ◌==◌, if◌then◌else◌, List, [], ◌∷◌, ◌++◌}
+use Rattle.std.specs.Prelude.{take, drop, position, Option, Some, None, Result, Ok, Err, codes}
 use Rattle.std.specs.Fmt.{signed_decimal}
 use Rattle.std.specs.List.{position_or_len}
 use Rattle.domain.specs.Facts.{Bound, Number, Plus, Span}
+use Rattle.domain.specs.Versions.{most_spans}
 use Rattle.domain.specs.declared.versions.Version.{Version}
-use Rattle.domain.specs.declared.versions.Version.TheVariants.{One}
 use Rattle.certificate.specs.declared.words.LineFault.{LineFault}
 use Rattle.certificate.specs.declared.words.LineFault.TheVariants.{NotInGrammar}
 use Rattle.certificate.specs.Words.{◌>>=◌, behind, both, constant_of, lowered_of, parted, positive_of, variable}
@@ -49,13 +49,32 @@ bound_of word =
     when (behind (codes "v") word) (λ _. plus_at word (position_or_len is_sign word))
     (constant_of word >>= λ number. Ok (Number number))
 
--- two bounds
-abbrev pub span_of : List ℕ → Result Span LineFault
-span_of words = do
-  ends ← parted words
-  bounds ← both (bound_of ends.0) (bound_of ends.1)
+-- the span between two bounds
+abbrev pub span_of : (first last : List ℕ) → Result Span LineFault
+span_of first last = do
+  bounds ← both (bound_of first) (bound_of last)
   Ok (record { first = bounds.0; last = bounds.1 })
 
--- the spans that words say: in version 1 one
+-- a span and those behind it
+abbrev pub span_and : Result Span LineFault → Result (List Span) LineFault → Result (List Span) LineFault
+span_and span more = do
+  parts ← both span more
+  Ok (parts.0 ∷ parts.1)
+
+-- the spans of a first bound and what stands behind it: a last bound, and perhaps more spans behind a blank
+abbrev pub spans_at : (read_more : List ℕ → Result (List Span) LineFault) → (first rest : List ℕ) → Option ℕ
+    → Result (List Span) LineFault
+spans_at read_more first rest None = span_of first rest >>= λ span. Ok (span ∷ [])
+spans_at read_more first rest (Some end) =
+    span_and (span_of first (take end rest)) (read_more (drop (suc end) rest))
+
+-- spans, at least one and at most a number of them: bounds in pairs, a blank between any two of them
+abbrev pub spans_up_to : ℕ → List ℕ → Result (List Span) LineFault
+spans_up_to zero words = Err NotInGrammar
+spans_up_to (suc more) words = do
+  ends ← parted words
+  spans_at (spans_up_to more) ends.0 ends.1 (position (λ byte. byte == 32) ends.1)
+
+-- the spans that words say in a certificate of a version
 abbrev pub spans_of : Version → List ℕ → Result (List Span) LineFault
-spans_of One words = span_of words >>= λ span. Ok (span ∷ [])
+spans_of version words = spans_up_to (most_spans version) words

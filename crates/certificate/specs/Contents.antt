@@ -13,7 +13,7 @@ use Rattle.domain.specs.Facts.{Fact as VariableFact, said_path, said_spans, subj
 use Rattle.domain.specs.Interval.{Interval}
 use Rattle.domain.specs.Versions.{most_spans}
 use Rattle.domain.specs.declared.versions.Version.{Version}
-use Rattle.domain.specs.declared.versions.Version.TheVariants.{One}
+use Rattle.domain.specs.declared.versions.Version.TheVariants.{One, Two}
 use Rattle.certificate.specs.declared.AliasPair.{AliasPair}
 use Rattle.certificate.specs.declared.Certificate.{Certificate}
 use Rattle.certificate.specs.declared.Section.{Section as KeptSection}
@@ -213,6 +213,7 @@ lines_of sections = flat_map lines_of_section sections
 -- the first line of a certificate of a version
 abbrev pub heading : Version → List ℕ
 heading One = codes "pcert 1"
+heading Two = codes "pcert 2"
 
 -- a line with its end
 abbrev pub ended : List ℕ → List ℕ
@@ -227,7 +228,7 @@ pub record Spells (text : List ℕ) (certificate : Certificate) : Type 0 where
   pub in_order : are_in_order certificate.version (contents certificate) ≡ true
   pub text_is : text ≡ spelling certificate.version (contents certificate)
 
--- sections are answered, or memory ran out
-abbrev pub IsReadAs : List Section → Result Certificate ReadFault → Type 0
-IsReadAs sections (Ok certificate) = contents certificate ≡ sections
-IsReadAs sections (Err fault) = fault ≡ Memory the_refusal
+-- sections are answered, and their version, or memory ran out
+abbrev pub IsReadAs : Version → List Section → Result Certificate ReadFault → Type 0
+IsReadAs version sections (Ok certificate) = (certificate.version ≡ version) × (contents certificate ≡ sections)
+IsReadAs version sections (Err fault) = fault ≡ Memory the_refusal

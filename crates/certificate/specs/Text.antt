@@ -6,7 +6,7 @@ use Rattle.std.specs.Str.{bytes_eq}
 use Rattle.std.specs.Option.{is_some}
 use Rattle.std.specs.Ordering.{nat_cmp}
 use Rattle.domain.specs.declared.versions.Version.{Version}
-use Rattle.domain.specs.declared.versions.Version.TheVariants.{One}
+use Rattle.domain.specs.declared.versions.Version.TheVariants.{One, Two}
 use Rattle.certificate.specs.declared.words.LineFault.{LineFault}
 use Rattle.certificate.specs.declared.words.LineFault.TheVariants as line
 use Rattle.certificate.specs.declared.fault.ReadFault.{ReadFault}
@@ -111,10 +111,16 @@ fault_from version number above (line ∷ more) =
     or_else (line_fault version number above line more)
     (fault_from version (suc number) (below_line above (reading version line.bytes)) more)
 
+-- the version of which bytes are the heading
+abbrev pub version_named : List ℕ → Result Version ReadFault
+version_named bytes =
+    if bytes_eq bytes (heading One) then Ok One
+    else if bytes_eq bytes (heading Two) then Ok Two
+    else Err (FirstLine 1)
+
 -- the version that a first line names, or its fault: first that it has no end
 abbrev pub version_of : Line → Result Version ReadFault
-version_of line =
-    if line.ended then (if bytes_eq line.bytes (heading One) then Ok One else Err (FirstLine 1)) else Err (Unended 1)
+version_of line = if line.ended then version_named line.bytes else Err (Unended 1)
 
 -- the fault of a first line, or else of the first faulty line below it
 abbrev pub fault_behind : Result Version ReadFault → List Line → Option ReadFault

@@ -1,31 +1,57 @@
-ghost use Rattle.std.specs.Prelude.{◌≡◌, ◌≤◌, length, position};
+ghost use Rattle.std.specs.Prelude.{◌≡◌, ◌≤◌, [], ◌∷◌, length, position};
 ghost use Rattle.std.specs.List.{position_or_len};
 ghost use Rattle.std.specs.Result.{result_map_both};
 ghost use Rattle.domain.specs.Facts.{said_bound, said_span, said_spans};
 ghost use Rattle.certificate.specs.Bounds as spec;
 ghost use Rattle.certificate.specs.Bounds.{is_sign};
 
-use crate::words::{LineFault, both, constant_of, lowered_of, parted, positive_of, variable_of};
+use crate::words::{
+    LineFault, blank, both, constant_of, lowered_of, parted, positive_of, variable_of,
+};
 use domain::facts::{Bound, Span, Spans};
-use domain::versions::Version;
+use domain::versions::{Extension, Version};
 
-/// The spans that words tell in a certificate of a version: in version 1 one.
+/// The spans that words tell in a certificate of a version: one, or two where the version has blocks.
 pub(crate) fn spans_of(version: Version, words: &[u8]) -> Result<Spans, LineFault>
     ensures { result_map_both said_spans (λ fault. fault) result ≡ spec.spans_of version words.now }
 {
-    match version {
-        Version::One => {
-            let span = span_of(words)?;
+    let (first, words) = parted(words)?;
+    match blank(words) {
+        None => {
+            let span = span_of(first, words)?;
             Ok(Spans::One(span))
         }
+        Some(end) if version.has(Extension::Blocks) => {
+            two_spans(first, &words[..end], &words[end + 1..])
+        }
+        Some(_) => Err(LineFault::NotInGrammar),
     }
 }
 
-/// The span that two bounds tell.
-fn span_of(words: &[u8]) -> Result<Span, LineFault>
-    ensures { result_map_both said_span (λ fault. fault) result ≡ spec.span_of words.now }
+/// The spans of a first index and of the second.
+fn two_spans(first: &[u8], last: &[u8], inner: &[u8]) -> Result<Spans, LineFault>
+    ensures { result_map_both said_spans (λ fault. fault) result
+        ≡ spec.span_and (spec.span_of first.now last.now) (spec.spans_up_to 1 inner.now) }
+{
+    let (span, inner) = both(span_of(first, last), inner_span(inner))?;
+    Ok(Spans::Two(span, inner))
+}
+
+/// The span of the second index, behind which none may stand.
+fn inner_span(words: &[u8]) -> Result<Span, LineFault>
+    ensures { result_map_both (λ span. said_span span ∷ []) (λ fault. fault) result ≡ spec.spans_up_to 1 words.now }
 {
     let (first, last) = parted(words)?;
+    match blank(last) {
+        None => span_of(first, last),
+        Some(_) => Err(LineFault::NotInGrammar),
+    }
+}
+
+/// The span between the bounds that two words tell.
+fn span_of(first: &[u8], last: &[u8]) -> Result<Span, LineFault>
+    ensures { result_map_both said_span (λ fault. fault) result ≡ spec.span_of first.now last.now }
+{
     let (first, last) = both(bound_of(first), bound_of(last))?;
     Ok(Span { first, last })
 }

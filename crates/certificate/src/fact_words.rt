@@ -24,7 +24,7 @@ pub(crate) enum FactWords<'a> {
         first: i32,
         last: i32,
     },
-    /// `defined P`, or `defined P B B`.
+    /// `defined P`, or `defined P B B`, or in version 2 `defined P B B B B`.
     Defined {
         path: PathWord<'a>,
         spans: Spans,

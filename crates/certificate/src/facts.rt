@@ -12,7 +12,7 @@ pub enum Fact {
     /// Each defined value at the path lies in the range.
     Range { path: Path, range: Interval },
     /// What lies at the path, which has no step to elements, is defined, or each element of it whose indexes lie in
-    /// the spans.
+    /// the spans, of which a version without blocks has one at most.
     Defined { path: Path, spans: Spans },
     /// Both variables are defined, and the value of the first is at most that of the other plus the number.
     Order { root: u32, other: u32, number: i32 },

@@ -15,7 +15,7 @@ pub enum ReadFault {
     /// F1, a first line that names no version; at line 1 of a text without lines.
     #[error("{line}: no certificate")]
     FirstLine { line: u64 },
-    /// F2, a line that no certificate has.
+    /// F2, a line that no certificate of its version has.
     #[error("{line}: no line of a certificate")]
     NotInGrammar { line: u64 },
     /// F3, a line that stands where it may not, or a heading with no line below it.

@@ -27,14 +27,14 @@ struct Line<'a> {
 ///
 /// # Errors
 /// The first faulty line, and of its faults the first of these: F5 where it lacks its end, F1 where it is the first and
-/// no heading, F2 where no certificate has such a line, F4 where a number is out of its range, F3 where the line may
-/// not stand here or a heading has nothing below it. A text without lines is F1 at line 1. Or `Memory`.
+/// no heading, F2 where no certificate of its version has such a line, F4 where a number is out of its range, F3 where
+/// the line may not stand here or a heading has nothing below it. A text without lines is F1 at line 1. Or `Memory`.
 pub fn read(alloc: Global, text: &[u8]) -> Result<Certificate, ReadFault>
     // The certificate is in order, and the text is its spelling.
     ensures exact { IfOk result (Spells text.now) }
-    // A text that spells sections in order is read, unless memory runs out, and no other sections are answered.
+    // A text that spells sections in order is read as these, and as of their version, unless memory runs out.
     ensures only { (version : TextVersion) (sections : List Said) → IsTrue (are_in_order version sections)
-        → text.now ≡ spelling version sections → IsReadAs sections result }
+        → text.now ≡ spelling version sections → IsReadAs version sections result }
     ensures fault { result_err result ≢ Some (Memory the_refusal) → result_err result ≡ first_fault text.now }
 {
     let Some((first, below)) = next_line(text) else {
@@ -51,6 +51,7 @@ pub(crate) fn heading(version: Version) -> &'static [u8]
 {
     match version {
         Version::One => b"pcert 1",
+        Version::Two => b"pcert 2",
     }
 }
 
@@ -61,10 +62,13 @@ fn version_of(line: Line<'_>) -> Result<Version, ReadFault>
     if !line.ended {
         return Err(ReadFault::Unended { line: 1 });
     }
-    if line.bytes != heading(Version::One) {
-        return Err(ReadFault::FirstLine { line: 1 });
+    if line.bytes == heading(Version::One) {
+        return Ok(Version::One);
     }
-    Ok(Version::One)
+    if line.bytes == heading(Version::Two) {
+        return Ok(Version::Two);
+    }
+    Err(ReadFault::FirstLine { line: 1 })
 }
 
 /// What the lines below the heading of a version say.

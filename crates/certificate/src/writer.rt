@@ -49,7 +49,7 @@ pub fn write(alloc: Global, certificate: &Certificate) -> Result<Vec<u8>, AllocE
 /// `Memory`, and no other where the certificate is in order.
 pub fn read_again(alloc: Global, certificate: &Certificate) -> Result<Certificate, ReadFault>
     ensures { IsTrue (are_in_order certificate.now.version (contents certificate.now))
-        → IsReadAs (contents certificate.now) result }
+        → IsReadAs certificate.now.version (contents certificate.now) result }
 {
     let text = write(alloc, certificate)?;
     read(alloc, &text)
@@ -186,6 +186,10 @@ impl Writer {
         match spans {
             Spans::None => {}
             Spans::One(span) => self.span(span),
+            Spans::Two(span, inner) => {
+                self.span(span);
+                self.span(inner);
+            }
         }
     }
 

@@ -1,7 +1,7 @@
 -- What is known behind a call holds there, with the facts that are claimed of the end of the callee's block.
 use Rattle.std.proofs.Common.{arith, ◌≡◌, ⊎_elim, ◌⊎◌, ◌∙◌, sym, ap, refl, subst, ℕ, Bool, true, false, cond, not, ◌&&◌}
-use Rattle.std.proofs.Common.{ℤ, pos, ◌+ℤ◌, ◌-ℤ◌, ◌≤ℤ◌, nat_eq, List, [], ◌∷◌, ◌++◌, length, map, Option, Some, None}
-use Rattle.std.specs.List.{Contains}
+use Rattle.std.proofs.Common.{ℤ, pos, ◌+ℤ◌, ◌-ℤ◌, ◌≤ℤ◌, nat_eq, List, [], ◌∷◌, length, map, Option, Some, None}
+use Rattle.std.specs.List.{Contains, flat_map}
 use Rattle.std.specs.Prelude.{slice_get}
 use Rattle.std.proofs.lemmas.Bool.{and_from, and_parts, cond_both, eq-eqb, false≢true}
 use Rattle.std.proofs.lemmas.Int.{ints}
@@ -31,19 +31,22 @@ use Rattle.checker_rows.proofs.Accessed.{IsOf, indexes-lie}
 use Rattle.checker_rows.proofs.Selected.{Matches}
 use Rattle.checker_state.specs.Bounds.{Bound, constant, moved_bound, plus}
 use Rattle.checker_state.specs.Holds as holding
-use Rattle.checker_state.specs.Holds.{HasComponent, HasNumber, Holds, IsBound, IsBoundBy, LieBetween, Moment, StretchHolds, moment, part_of, value_at}
+use Rattle.checker_state.specs.Holds.{AreBounds, HasComponent, HasNumber, Holds, IsBound, IsBoundBy, LieBetween, Moment, Numbers, StretchHolds}
+use Rattle.checker_state.specs.Holds.{moment, part_of, value_at}
 use Rattle.checker_state.specs.Knows.{IsOfForm, Knows, bound_rests}
 use Rattle.checker_state.specs.Loops.{is_among, with_claim}
 use Rattle.checker_state.specs.State.{Claim, Ordered, Span, State, Stretched}
 use Rattle.checker_state.specs.State as state
+use Rattle.checker_state.specs.Changes.{both_there, span_between}
 use Rattle.checker_state.specs.Stores.{Reach, all_of_row, entire, is_entire}
 use Rattle.checker_state.proofs.Apart.{entire-stored}
 use Rattle.checker_state.proofs.Assigned.{order-holds}
 use Rattle.checker_state.proofs.Bounds.{moved-is}
 use Rattle.checker_state.proofs.Changed.{bound-stays}
-use Rattle.checker_state.proofs.Given.{first-lies, first-of}
+use Rattle.checker_state.proofs.Given.{first-lies, first-of, whole-told}
+use Rattle.checker_state.proofs.Lists.{head-or_tail, in-none}
 use Rattle.checker_state.proofs.Looped.{claim-holds}
-use Rattle.checker_loops.specs.Loops.{defined_of, rows_named, said, said_bound}
+use Rattle.checker_loops.specs.Loops.{defined_of, rows_named, said, said_bound, said_span}
 use Rattle.checker_loops.specs.Sections.{BlockClaims}
 use Rattle.checker_loops.specs.Starts.{is_passed_value}
 use Rattle.checker_loops.proofs.VariableRows.{no-way, variable-row}
@@ -52,7 +55,7 @@ use Rattle.checker_calls.specs.Actuals.{Actual, Bearer, Binding, OfRows, OfValue
 use Rattle.checker_calls.specs.Actuals.{bearers_named, bearers_of, bound_to}
 use Rattle.checker_calls.specs.Environments.{LeavesPassed}
 use Rattle.checker_calls.specs.Exit.{Touches, bearer_defined, bearers_defined, behind_call, bounds_ordered, exit_bound, exit_bound_of, exit_plus, exit_spans}
-use Rattle.checker_calls.specs.Exit.{has_actual, is_own_path, is_steady, row_defined, span_between, steady_bound, touched_behind}
+use Rattle.checker_calls.specs.Exit.{exit_span, has_actual, is_own_path, is_steady, row_defined, steady_bound, touched_behind}
 use Rattle.checker_calls.specs.Exit.{touches_of, untouched_form, variables_ordered, with_exit, with_exits}
 use Rattle.checker_calls.proofs.Assigned.{Received}
 use Rattle.checker_calls.proofs.Bearers.{bearer-from, named-root}
@@ -130,15 +133,33 @@ span-parts rows m row first last (one ∷ [], bounds, each) = (
       each steps index of_row is (subst (λ (indexes : List ℤ). LieBetween (one ∷ []) indexes) (sym (first-of steps index is).1) (low, high, tt)),
 )
 
-span-holds : (rows : List Parts) (m : Moment) (row : ℕ) (first last : Bound) (low high : ℤ) → IsBound m first low → IsBound m last high
-    → IsBetween rows m row low high → StretchHolds rows (one_span row first last) m
-span-holds rows m row first last low high low_is high_is each = (
-  record { first = low; last = high } ∷ [],
-  (low_is, high_is, tt),
-  λ steps index of_row is lie.
-      let lies = subst (λ (indexes : List ℤ). LieBetween (record { first = low; last = high } ∷ []) indexes) (first-of steps index is).1 lie in
-      each steps index of_row is lies.0 lies.1,
-)
+-- ---- spans that are all there
+
+span-and : (one : Option Span) (more : Option (List Span)) (found : List Span) → both_there one more ≡ Some found
+    → (first : Span) × (rest : List Span) × (one ≡ Some first) × (more ≡ Some rest) × ((first ∷ rest) ≡ found)
+span-and None more found is = absurd (none-some found is)
+span-and (Some one) None found is = absurd (none-some found is)
+span-and (Some one) (Some more) found is = (one, more, refl, refl, same_Some (one ∷ more) found is)
+
+span-ends : (first last : Option Bound) (span : Span) → span_between first last ≡ Some span
+    → (a b : Bound) × (first ≡ Some a) × (last ≡ Some b) × ((let one : Span = record { first = a; last = b } in one) ≡ span)
+span-ends None last span is = absurd (none-some span is)
+span-ends (Some a) None span is = absurd (none-some span is)
+span-ends (Some a) (Some b) span is = (a, b, refl, refl, same_Some (record { first = a; last = b }) span is)
+
+none-some_more : {one : Span} {more : List Span} → (one ∷ more) ≡ [] → ⊥
+none-some_more is = cc
+
+-- a root of one of some spans is one of theirs
+root-inside : (spans : List fact.Span) (span : fact.Span) (root : ℕ) → Contains spans span → Contains (span_roots span) root
+    → Contains (flat_map span_roots spans) root
+root-inside [] span root inside own = absurd (in-none span inside)
+root-inside (one ∷ spans) span root inside own =
+    ⊎_elim
+    (λ same.
+    Contains-append_left (span_roots one) (flat_map span_roots spans) root (subst (λ (s : fact.Span). Contains (span_roots s) root) (sym same) own))
+    (λ later. Contains-append_right (span_roots one) (flat_map span_roots spans) root (root-inside spans span root later own))
+    (head-or_tail one span spans inside)
 
 module _ (tree : Tree) (pairs : List (ℕ × ℕ)) (number : ℕ) (block : Block) (arguments : List Argument) (caller : Environment) (activations from : ℕ)
     (store : Store) (actuals : List Actual) (claims : BlockClaims) (after : Store)
@@ -342,13 +363,6 @@ module _ (tree : Tree) (pairs : List (ℕ × ℕ)) (number : ℕ) (block : Block
   exit-here one claim listed inside =
       exit-holds tree pairs number block arguments caller activations from store actuals claims after back one claim listed inside
 
-  whole-claim : (row : ℕ) (index : Option OrdinalRange) → ((steps : List Step) → IsOf tree row steps → HasComponent (all_parts tree) outer row steps)
-      → Holds (all_parts tree) (all_of_row index row) outer
-  whole-claim row None has = has
-  whole-claim row (Some range) has =
-      span-holds (all_parts tree) outer row (constant range.first) (constant range.last) range.first range.last refl refl
-      (λ steps n of_row first low high. has steps of_row)
-
   whole-has : (row : ℕ) (ranges : List OrdinalRange) → indexes_at (rows_of tree) row ≡ ranges
       → Holds (all_parts tree) (all_of_row (slice_get ranges 0) row) inner
       → (steps : List Step) → IsOf tree row steps → HasComponent (all_parts tree) inner row steps
@@ -377,7 +391,7 @@ module _ (tree : Tree) (pairs : List (ℕ × ℕ)) (number : ℕ) (block : Block
   whole-row : (path : Path) → Contains claims.exit (fact.Defined path []) → DefinesRow path (Some [])
   whole-row path listed own row named same known knows =
       claim-known (all_of_row (index_at (rows_of tree) own) own) known
-      (whole-claim own (index_at (rows_of tree) own)
+      (whole-told (all_parts tree) outer own (index_at (rows_of tree) own)
       (λ steps of_row.
       let at = same steps of_row in
       let has = whole-has row (indexes_at (rows_of tree) row) refl
@@ -385,23 +399,50 @@ module _ (tree : Tree) (pairs : List (ℕ × ℕ)) (number : ℕ) (block : Block
       at.rest at.of_row in
       (has.0, at.value ∙ has.1))) knows
 
-  row-between : (path : Path) (span : fact.Span) (low high : Option Bound) → Contains claims.exit (fact.Defined path (span ∷ []))
-      → BecomesBound span.first low → BecomesBound span.last high → DefinesRow path (span_between low high)
-  row-between path span None high listed low_is high_is own row named same known knows = knows
-  row-between path span (Some low) None listed low_is high_is own row named same known knows = knows
-  row-between path span (Some low) (Some high) listed low_is high_is own row named same known knows =
-      let claim : Claim = state.Holds (Stretched (one_span own low high)) in
-      cond_both (is_variable_row tree own) known (with_claim claim known) KnowsHere (λ variable. knows)
-      (λ other.
-      let (from_first, to_last, first_is, last_is, each) = span-parts (all_parts tree) inner row (said_bound span.first) (said_bound span.last)
-      (exit-here (fact.Defined path (span ∷ [])) (defined_of tree (span ∷ []) row) listed
-      (in-map (defined_of tree (span ∷ [])) (rows_named tree path) row named)) in
-      claim-known claim known
-      (span-holds (all_parts tree) outer own low high from_first to_last (low_is from_first first_is low refl) (high_is to_last last_is high refl)
-      (λ steps index of_row is above below.
-      let at = same steps of_row in
-      let has = each at.rest index at.of_row (sym at.first ∙ is) above below in
-      (has.0, at.value ∙ has.1))) knows)
+  -- the bounds of spans of the callee are those of the caller's, if all are there
+  abbrev BecomeBounds : fact.Span → Type 0
+  BecomeBounds span =
+      BecomesBound span.first (exit_bound tree bindings touches span.first) × BecomesBound span.last (exit_bound tree bindings touches span.last)
+
+  spans-become : (spans : List fact.Span) → ((span : fact.Span) → Contains spans span → BecomeBounds span) → (numbers : List Numbers)
+      → AreBounds inner (map said_span spans) numbers → (found : List Span) → exit_spans tree bindings touches spans ≡ Some found
+      → AreBounds outer found numbers
+  spans-become [] become [] are found is = subst (λ (all : List Span). AreBounds outer all []) (same_Some [] found is) tt
+  spans-become [] become (own ∷ numbers) are found is = absurd are
+  spans-become (span ∷ spans) become [] are found is = absurd are
+  spans-become (span ∷ spans) become (own ∷ numbers) are found is =
+      let (one, more, one_is, more_is, same) = span-and (exit_span tree bindings touches span) (exit_spans tree bindings touches spans) found is in
+      let (first, last, first_is, last_is, span_is) =
+      span-ends (exit_bound tree bindings touches span.first) (exit_bound tree bindings touches span.last) one one_is in
+      let ends = become span (0, omega arith, refl) in
+      subst (λ (all : List Span). AreBounds outer all (own ∷ numbers)) same (
+        subst (λ (s : Span). IsBound outer s.first own.first) span_is (ends.0 own.first are.0 first first_is),
+        subst (λ (s : Span). IsBound outer s.last own.last) span_is (ends.1 own.last are.1 last last_is),
+        spans-become spans (λ other inside. become other (contains-more span spans other inside)) numbers are.2 more more_is,
+      )
+
+  row-spans : (path : Path) (span : fact.Span) (spans : List fact.Span) → Contains claims.exit (fact.Defined path (span ∷ spans))
+      → ((one : fact.Span) → Contains (span ∷ spans) one → BecomeBounds one) → DefinesRow path (exit_spans tree bindings touches (span ∷ spans))
+  row-spans path span spans listed become own row named same known knows = by (exit_spans tree bindings touches (span ∷ spans)) refl
+    where
+      by : (found : Option (List Span)) → exit_spans tree bindings touches (span ∷ spans) ≡ found → KnowsHere (row_defined tree found own known)
+      by None is = knows
+      by (Some []) is =
+          let parts = span-and (exit_span tree bindings touches span) (exit_spans tree bindings touches spans) [] is in absurd (none-some_more parts.4)
+      by (Some (one ∷ more)) is =
+          let claim : Claim = state.Holds (Stretched (record { row = own; spans = one ∷ more })) in
+          cond_both (is_variable_row tree own) known (with_claim claim known) KnowsHere (λ variable. knows)
+          (λ other.
+          let (numbers, bounds, each) = exit-here (fact.Defined path (span ∷ spans)) (defined_of tree (span ∷ spans) row) listed
+          (in-map (defined_of tree (span ∷ spans)) (rows_named tree path) row named) in
+          claim-known claim known (
+            numbers,
+            spans-become (span ∷ spans) become numbers bounds (one ∷ more) is,
+            λ steps index of_row first lie.
+                let at = same steps of_row in
+                let has = each at.rest index at.of_row (sym at.first ∙ first) (subst (LieBetween numbers) at.all lie) in
+                (has.0, at.value ∙ has.1),
+          ) knows)
 
   -- so it is of what bears rows of a path
   bearer-defined : (path : Path) (found : Option (List Span)) → DefinesRow path found → (bearer : Bearer) → IsSeen path bearer → (known : State)
@@ -474,16 +515,16 @@ module _ (tree : Tree) (pairs : List (ℕ × ℕ)) (number : ℕ) (block : Block
   spans-define : (path : Path) (spans : List fact.Span) → IsLasting tree number claims.changes (fact.Defined path spans)
       → Contains claims.exit (fact.Defined path spans) → DefinesRow path (exit_spans tree bindings touches spans)
   spans-define path [] lasts listed = whole-row path listed
-  spans-define path (span ∷ []) lasts listed =
-      let one = fact.Defined path (span ∷ []) in
-      let own_root = λ (root : ℕ) (inside : Contains (span_roots span) root).
-      contains-more path.root (span_roots span ++ []) root (Contains-append_left (span_roots span) [] root inside) in
-      row-between path span (exit_bound tree bindings touches span.first) (exit_bound tree bindings touches span.last) listed
-      (bound-here span.first one lasts
-      (λ root inside. own_root root (Contains-append_left (bound_roots span.first) (bound_roots span.last) root inside)))
-      (bound-here span.last one lasts
-      (λ root inside. own_root root (Contains-append_right (bound_roots span.first) (bound_roots span.last) root inside)))
-  spans-define path (span ∷ other ∷ spans) lasts listed = λ own row named same known knows. knows
+  spans-define path (span ∷ spans) lasts listed =
+      let one = fact.Defined path (span ∷ spans) in
+      let own_root = λ (other : fact.Span) (there : Contains (span ∷ spans) other) (root : ℕ) (inside : Contains (span_roots other) root).
+      contains-more path.root (flat_map span_roots (span ∷ spans)) root (root-inside (span ∷ spans) other root there inside) in
+      row-spans path span spans listed (λ other there. (
+        bound-here other.first one lasts
+            (λ root inside. own_root other there root (Contains-append_left (bound_roots other.first) (bound_roots other.last) root inside)),
+        bound-here other.last one lasts
+            (λ root inside. own_root other there root (Contains-append_right (bound_roots other.first) (bound_roots other.last) root inside)),
+      ))
 
   -- the whole of a result is a claim on what the callee alone knows
   own-whole : (path : Path) (spans : List fact.Span) → IsOwnResult tree number (fact.Defined path spans) → is_own_here path ≡ true

@@ -15,7 +15,7 @@ use Rattle.domain.specs.Interval.{Interval}
 use Rattle.meaning.specs.Meaning as meaning
 use Rattle.meaning.specs.Meaning.{Argument, environment_of, place_for, place_passed}
 use Rattle.meaning.specs.Store.{Environment, Place, Store}
-use Rattle.checker_rows.specs.Rows.{all_parts, first_index, no_parts, rows_accessed, rows_under}
+use Rattle.checker_rows.specs.Rows.{all_parts, first_index, indexes_of, no_parts, rows_accessed, rows_under}
 use Rattle.checker_rows.proofs.Accessed.{IsOf, rows-are}
 use Rattle.checker_rows.proofs.Components.{mapped-at}
 use Rattle.checker_rows.proofs.Numbered.{has-contains}
@@ -31,6 +31,7 @@ use Rattle.checker_calls.proofs.FormalRows.{LiesBy, actual-row, same-value}
 use Rattle.checker_calls.proofs.Origins.{rows-same}
 use Rattle.checker_calls.proofs.Parameters.{IsOuter, IsParameter, parameter-block}
 use Rattle.checker_calls.proofs.Passed.{Fits, IsArgument}
+use Rattle.checker_calls.proofs.Reached.{indexes-behind_fields}
 
 no-index : (is_all : Bool) (indexes : List Index) → is_entire_by is_all indexes ≡ true → indexes ≡ []
 no-index is_all [] is = refl
@@ -81,6 +82,7 @@ module _ (tree : Tree) (pairs : List (ℕ × ℕ)) (number : ℕ) (block : Block
     pub of_row : IsOf tree row rest
     pub value : component_at (all_parts tree) outer own steps ≡ component_at (all_parts tree) inner row rest
     pub first : first_index steps ≡ first_index rest
+    pub all : indexes_of steps ≡ indexes_of rest
 
   -- what bears a row, if it is all of one, is that row
   abbrev pub Bears : Bearer → ℕ → Type 0
@@ -95,6 +97,7 @@ module _ (tree : Tree) (pairs : List (ℕ × ℕ)) (number : ℕ) (block : Block
     of_row = of_row;
     value = ap (λ (r : ℕ). value_at outer r steps) root_is ∙ sym (outer-same root variable here steps) ∙ ap (λ (r : ℕ). value_at inner r steps) (sym root_is);
     first = refl;
+    all = refl;
   }
 
   -- a row under what is passed bears the row of the parameter at its place
@@ -123,6 +126,7 @@ module _ (tree : Tree) (pairs : List (ℕ × ℕ)) (number : ℕ) (block : Block
             ∙ sym (same-value tree caller callee root other all way variable.type_id at after behind.1)
             ∙ ap (λ (r : ℕ). value_at inner r behind.1) (sym root_is);
         first = ap first_index steps_are ∙ first-behind_fields all way behind.1 none at.matches;
+        all = ap indexes_of steps_are ∙ indexes-behind_fields all way behind.1 none at.matches;
       }
 
   values-bear : (ranges : List Interval) (j row : ℕ) (bearer : Bearer) → slice_get (map Passed ranges) j ≡ Some bearer → Bears bearer row

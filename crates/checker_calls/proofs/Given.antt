@@ -1,16 +1,16 @@
 -- What is given where a block is called holds where it begins: each formal parameter has what its actual one has.
-use Rattle.std.proofs.Common.{arith, ◌≡◌, ⊎_elim, ◌∙◌, sym, ap, refl, subst, ℕ, ℤ, ◌+ℤ◌, ◌≤ℤ◌, pos, Bool, true, false, ◌&&◌, ◌||◌, not, nat_eq}
+use Rattle.std.proofs.Common.{arith, ◌≡◌, ⊎_elim, ◌∙◌, sym, ap, refl, subst, ℕ, ℤ, ◌+ℤ◌, ◌≤ℤ◌, pos, Bool, true, false, ◌&&◌, ◌||◌, not}
 use Rattle.std.proofs.Common.{List, [], ◌∷◌, ◌++◌, map, length, int_le, Option, Some, None}
 use Rattle.std.specs.List.{All, Contains, flat_map, list_all, list_any}
 use Rattle.std.specs.Prelude.{is_some, option_map, slice_get}
-use Rattle.std.proofs.lemmas.Bool.{and_parts, eqb-true, false≢true, or_cases}
+use Rattle.std.proofs.lemmas.Bool.{and_parts, false≢true, or_cases}
 use Rattle.std.proofs.lemmas.Int.{ints}
 use Rattle.std.proofs.lemmas.List.Elements.{All-append, All-cons, All-contains, All-contains_itself, All-map, All-nil, All-weaker, Contains-append_left}
 use Rattle.std.proofs.lemmas.List.Elements.{Contains-append_right}
+use Rattle.std.proofs.lemmas.List.Folds.{list_all-append}
 use Rattle.std.proofs.lemmas.List.Sums.{AllPass-from_list_all}
 use Rattle.std.proofs.lemmas.Option.{cond_some, none-some, same_Some, slice_get_within}
 use Rattle.types.specs.Types.{is_ordinal, is_scalar, is_structured}
-use Rattle.types.specs.declared.form.OrdinalRange.{OrdinalRange}
 use Rattle.types.specs.declared.form.Step.{Step}
 use Rattle.types.proofs.Scalars.{scalar_component}
 use Rattle.typed_tree.specs.Accesses.{Origin, AtVariable, root_of}
@@ -37,11 +37,10 @@ use Rattle.checker_calls.proofs.Started.{value-home}
 use Rattle.checker_calls.proofs.Assigned.{Received}
 use Rattle.checker_rows.proofs.Selected.{Matches}
 use Rattle.checker_calls.proofs.FormalRows.{same-value}
-use Rattle.checker_state.proofs.Lists.{any-in}
-use Rattle.checker_calls.proofs.Reached.{alive, reached-has}
+use Rattle.checker_calls.proofs.Reached.{alive, indexes-behind_fields, reached-has}
 use Rattle.checker_state.proofs.Looped.{given-all, range-lies}
 use Rattle.checker_state.proofs.Ranged.{included-in}
-use Rattle.checker_state.specs.Stores.{Index, Reach, all_of_row, gives_reached}
+use Rattle.checker_state.specs.Stores.{Index, Reach, gives_reached}
 use Rattle.checker_calls.proofs.Borne.{IsBorne, IsBorneBy, IsReached, caller-kept, component-borne, lies-at, outer-value, value-received}
 use Rattle.checker_calls.proofs.Entered.{behind_assignments}
 use Rattle.checker_calls.proofs.Origins.{rows-same}
@@ -50,21 +49,23 @@ use Rattle.checker_calls.specs.Actuals.{Actual, Bearer, Binding, OfRows, OfValue
 use Rattle.checker_calls.specs.Environments.{Begun, LiesIn, Typed}
 use Rattle.checker_calls.proofs.Callee.{IsCalled, activation_of}
 use Rattle.checker_rows.proofs.Accessed.{IsOf}
-use Rattle.checker_state.proofs.Given.{first-of, value-is}
+use Rattle.checker_state.proofs.Given.{AreWanted, IsWanted, given-holds, had, value-is, whole-told}
 use Rattle.checker_state.proofs.Bounded.{bound-here}
 use Rattle.checker_loops.proofs.Tabled.{are-rows}
-use Rattle.checker_loops.specs.Loops.{all_said, defined_of, gives_claims, rows_named, said, said_bound}
-use Rattle.checker_state.specs.State.{table_of}
+use Rattle.checker_state.specs.Loops.{gives_all}
+use Rattle.checker_loops.specs.Loops.{all_said, asked, asked_of, defined_of, gives_claims, rows_named, said, said_bound, said_span}
+use Rattle.checker_state.specs.State.{Defined, state_gives, table_of}
 use Rattle.checker_state.proofs.Bounds.{le-is, raised-is, told-of}
 use Rattle.checker_state.specs.Bounds.{Bound, constant, plus, raised_bound}
-use Rattle.checker_rows.specs.Rows.{all_parts, first_index, index_at, is_ordinal_variable, is_variable_row, rows_accessed, rows_of}
+use Rattle.checker_rows.specs.Rows.{all_parts, first_index, index_at, indexes_of, is_ordinal_variable, is_variable_row, rows_accessed, rows_of}
 use Rattle.checker_state.specs.Knows.{IsOfForm, Knows}
-use Rattle.checker_state.specs.State.{Claim, Dead, Held, Live, Ordered, Range, Span, State, Stretched, at_most, has_value, is_below, is_dead, range_of}
-use Rattle.checker_calls.specs.Entry.{Limit, are_borne_between, are_given, are_ordered, are_reached, covers_between, forms_at_most, has_between, held_in}
-use Rattle.checker_calls.specs.Entry.{is_at_most, is_borne_between, is_defined_borne, is_given, limit_moved, limit_of, limit_of_actual, limit_of_bound}
-use Rattle.checker_calls.specs.Entry.{limit_of_plus, limit_of_variable, range_borne}
-use Rattle.checker_state.specs.Holds.{HasComponent, HasNumber, HasValue, HeldHolds, HoldNumbers, Holds, IsBound, IsIn, LieBetween, Moment, StateHolds}
-use Rattle.checker_state.specs.Holds.{StretchHolds, moment, part_of, value_at}
+use Rattle.checker_state.specs.State.{Claim, Dead, Live, Ordered, Range, State, at_most, has_value, is_below, is_dead, range_of}
+use Rattle.checker_calls.specs.Entry.{Between, Limit, are_borne_between, are_given, are_ordered, are_reached, between_and, both_limits, forms_at_most}
+use Rattle.checker_calls.specs.Entry.{have_values, holds_between, is_at_most, is_borne_between, is_defined_borne, is_empty_between, is_given, limit_moved}
+use Rattle.checker_calls.specs.Entry.{limit_of, limit_of_actual, limit_of_bound, limit_of_plus, limit_of_variable, limits_of, limits_of_span, range_borne}
+use Rattle.checker_calls.specs.Entry.{wanted_between}
+use Rattle.checker_state.specs.Holds.{AreBounds, AreDefined, HasComponent, HasNumber, HasValue, HeldHolds, HoldNumbers, Holds, IsBound, IsIn, LieBetween}
+use Rattle.checker_state.specs.Holds.{Moment, Numbers, StateHolds, moment, part_of, value_at}
 use Rattle.checker_calls.proofs.Parameters.{IsOuter, IsOutward, IsParameter, outward-cases, parameter-block}
 use Rattle.checker_state.specs.State.{Holds as Holding}
 
@@ -87,11 +88,36 @@ abbrev pub AreOutward : Tree → ℕ → Fact → Type 0
 AreOutward tree number one = (root : ℕ) → Contains (fact_roots one) root → IsOutward tree number root
 
 -- a state gives what holds where it does
-pub given-claims : (tree : Tree) (env : Environment) (state : State) (store : Store) (facts : List Fact)
-    → HoldNumbers (is_ordinal_variable tree) (moment env store) → Knows (all_parts tree) (length tree.variables.items) env state store
-    → gives_claims tree state facts ≡ true → AllHold tree facts env store
-given-claims tree env state store facts numbers known given =
-    given-all (all_parts tree) (table_of tree) (are-rows tree) env state store (all_said tree facts) numbers known given
+module _ (tree : Tree) (env : Environment) (state : State) (store : Store) (numbers : HoldNumbers (is_ordinal_variable tree) (moment env store))
+    (known : Knows (all_parts tree) (length tree.variables.items) env state store) where
+  abbrev HoldsThere : Claim → Type 0
+  HoldsThere claim = Holds (all_parts tree) claim (moment env store)
+
+  whole-rows : (rows : List ℕ) → gives_all (table_of tree) state (map (asked_of tree []) rows) ≡ true → All HoldsThere (map (defined_of tree []) rows)
+  whole-rows [] given = All-nil HoldsThere
+  whole-rows (row ∷ rows) given =
+      let rest = gives_all (table_of tree) state (map (asked_of tree []) rows) in
+      let parts = and_parts (state_gives (table_of tree) state (Defined row)) rest given in
+      All-cons HoldsThere (defined_of tree [] row) (map (defined_of tree []) rows)
+      (whole-told (all_parts tree) (moment env store) row (index_at (rows_of tree) row)
+      (given-holds (all_parts tree) (table_of tree) (are-rows tree) env state store (Defined row) numbers known parts.0)) (whole-rows rows parts.1)
+
+  given-fact : (one : Fact) → gives_all (table_of tree) state (asked tree one) ≡ true → All HoldsThere (said tree one)
+  given-fact (fact.Range path range) given =
+      given-all (all_parts tree) (table_of tree) (are-rows tree) env state store (said tree (fact.Range path range)) numbers known given
+  given-fact (fact.Defined path []) given = whole-rows (rows_named tree path) given
+  given-fact (fact.Defined path (span ∷ spans)) given =
+      given-all (all_parts tree) (table_of tree) (are-rows tree) env state store (said tree (fact.Defined path (span ∷ spans))) numbers known given
+  given-fact (fact.Order root other k) given =
+      given-all (all_parts tree) (table_of tree) (are-rows tree) env state store (said tree (fact.Order root other k)) numbers known given
+
+  pub given-claims : (facts : List Fact) → gives_claims tree state facts ≡ true → AllHold tree facts env store
+  given-claims [] given = All-nil HoldsThere
+  given-claims (one ∷ facts) given =
+      let asked_one = gives_all (table_of tree) state (asked tree one) in
+      let parts = and_parts asked_one (gives_claims tree state facts)
+      (sym (list_all-append (state_gives (table_of tree) state) (asked tree one) (flat_map (asked tree) facts)) ∙ given) in
+      All-append HoldsThere (said tree one) (all_said tree facts) (given-fact one parts.0) (given-claims facts parts.1)
 
 -- ---- limits
 
@@ -99,6 +125,29 @@ given-claims tree env state store facts numbers known given =
 pub record IsLimit (m : Moment) (limit : Limit) (n : ℤ) : Type 0 where
   pub of_form : (b : Bound) → limit.form ≡ Some b → IsBound m b n
   pub in_range : HasMember limit.range n
+
+-- what numbers limits are
+abbrev pub IsBetween : Moment → Between → Numbers → Type 0
+IsBetween m limits own = IsLimit m limits.first own.first × IsLimit m limits.last own.last
+
+abbrev pub AreBetween : Moment → List Between → List Numbers → Type 0
+AreBetween m [] [] = Unit {0}
+AreBetween m [] (one ∷ own) = ⊥
+AreBetween m (one ∷ limits) [] = ⊥
+AreBetween m (one ∷ limits) (first ∷ own) = IsBetween m one first × AreBetween m limits own
+
+-- limits that are all there
+limits-and : (one : Option Between) (more : Option (List Between)) (found : List Between) → between_and one more ≡ Some found
+    → (first : Between) × (rest : List Between) × (one ≡ Some first) × (more ≡ Some rest) × ((first ∷ rest) ≡ found)
+limits-and None more found is = absurd (none-some found is)
+limits-and (Some one) None found is = absurd (none-some found is)
+limits-and (Some one) (Some more) found is = (one, more, refl, refl, same_Some (one ∷ more) found is)
+
+limits-ends : (first last : Option Limit) (found : Between) → both_limits first last ≡ Some found
+    → (a b : Limit) × (first ≡ Some a) × (last ≡ Some b) × ((let one : Between = record { first = a; last = b } in one) ≡ found)
+limits-ends None last found is = absurd (none-some found is)
+limits-ends (Some a) None found is = absurd (none-some found is)
+limits-ends (Some a) (Some b) found is = (a, b, refl, refl, same_Some (record { first = a; last = b }) found is)
 
 below-holds : (a b : Interval) (m n : ℤ) → HasMember a m → HasMember b n → is_below a b ≡ true → m ≤ℤ n
 below-holds a b m n left right is =
@@ -159,40 +208,47 @@ module _ (tree : Tree) (env : Environment) (store : Store) (state : State) (numb
         (omega (arith, ints), omega (arith, ints)));
   }
 
-  held-here : (state : State) → StateHolds (all_parts tree) state here → (one : Held) → Contains (held_in state) one → HeldHolds (all_parts tree) one here
-  held-here Dead holds one inside = absurd holds
-  held-here (Live known) holds one inside = holds.held one inside
+  -- what is asked of the span between limits is so of their numbers
+  between-wanted : (limits : Between) (own : Numbers) → IsBetween here limits own → IsWanted here (wanted_between tree state limits) own
+  between-wanted limits own are = record {
+    from = λ bound n at is. limits-hold (limit_of tree state bound) limits.first n own.first (limit-is bound n at) are.0 is;
+    to = λ bound n at is. limits-hold limits.last (limit_of tree state bound) own.last n are.1 (limit-is bound n at) is;
+  }
 
-  -- an index between two limits lies in a stretch that is held from the first to the last
-  between-has : (first last : Limit) (low high index : ℤ) → IsLimit here first low → IsLimit here last high → low ≤ℤ index
-      → index ≤ℤ high → (row : ℕ) (spans : List Span) (steps : List Step) → IsOf tree row steps → first_index steps ≡ Some index
-      → has_between tree state first last spans ≡ true → StretchHolds (all_parts tree) (record { row = row; spans = spans }) here
-      → HasComponent (all_parts tree) here row steps
-  between-has first last low high index low_is high_is above below row [] steps of_row at is holds = absurd (false≢true is)
-  between-has first last low high index low_is high_is above below row (span ∷ other ∷ spans) steps of_row at is holds = absurd (false≢true is)
-  between-has first last low high index low_is high_is above below row (span ∷ []) steps of_row at is ([], bounds, defined) = absurd bounds
-  between-has first last low high index low_is high_is above below row (span ∷ []) steps of_row at is (one ∷ two ∷ numbers, bounds, defined) =
-      absurd bounds.2
-  between-has first last low high index low_is high_is above below row (span ∷ []) steps of_row at is (one ∷ [], bounds, defined) =
-      let from = limit_of tree state span.first in
-      let to = limit_of tree state span.last in
-      let both = and_parts (is_at_most state from first) (is_at_most state last to) is in
-      let before = limits-hold from first one.first low (limit-is span.first one.first bounds.0) low_is both.0 in
-      let after = limits-hold last to high one.last high_is (limit-is span.last one.last bounds.1) both.1 in
-      defined steps index of_row at
-      (subst (λ (indexes : List ℤ). LieBetween (one ∷ []) indexes) (sym (first-of steps index at).1)
-      (omega (arith, ints, before, above), omega (arith, ints, after, below), tt))
+  all-wanted : (limits : List Between) (own : List Numbers) → AreBetween here limits own → AreWanted here (map (wanted_between tree state) limits) own
+  all-wanted [] [] are = tt
+  all-wanted [] (one ∷ own) are = are
+  all-wanted (one ∷ limits) [] are = are
+  all-wanted (one ∷ limits) (first ∷ own) are = (between-wanted one first are.0, all-wanted limits own are.1)
 
-  -- so it is with what is held of a row
-  covered-has : (first last : Limit) (low high index : ℤ) → IsLimit here first low → IsLimit here last high → low ≤ℤ index
-      → index ≤ℤ high → (row : ℕ) (one : Held) (steps : List Step) → IsOf tree row steps → first_index steps ≡ Some index
-      → covers_between tree state row first last one ≡ true → HeldHolds (all_parts tree) one here → HasComponent (all_parts tree) here row steps
-  covered-has first last low high index low_is high_is above below row (Ordered root other number) steps of_row at is holds = absurd (false≢true is)
-  covered-has first last low high index low_is high_is above below row (Stretched stretch) steps of_row at is holds =
-      let both = and_parts (nat_eq stretch.row row) (has_between tree state first last stretch.spans) is in
-      let same = eqb-true stretch.row row both.0 in
-      between-has first last low high index low_is high_is above below row stretch.spans steps of_row at both.1
-      (subst (λ (r : ℕ). StretchHolds (all_parts tree) (record { row = r; spans = stretch.spans }) here) same holds)
+  -- the components of a row between limits, where what is held has them
+  pub held-between : (row : ℕ) (limits : List Between) (own : List Numbers) → AreBetween here limits own → holds_between tree state row limits ≡ true
+      → AreDefined (all_parts tree) row own here
+  held-between row limits own are is = by state refl knows.holds is
+    where
+      by : (other : State) → state ≡ other → StateHolds (all_parts tree) other here → holds_between tree other row limits ≡ true
+          → AreDefined (all_parts tree) row own here
+      by Dead same holds is = absurd holds
+      by (Live known) same holds is =
+          had (all_parts tree) here known (told-of (all_parts tree) (table_of tree) (are-rows tree) env knows.shows store known holds)
+          ((table_of tree).indexes row) row ((are-rows tree).indexes row) (map (wanted_between tree (Live known)) limits) own
+          (subst (λ (s : State). AreWanted here (map (wanted_between tree s) limits) own) same (all-wanted limits own are)) is
+
+  -- no index lies between limits, of which some have none between
+  pub none-between : (limits : List Between) (own : List Numbers) (indexes : List ℤ) → list_any (is_empty_between state) limits ≡ true
+      → AreBetween here limits own → LieBetween own indexes → ⊥
+  none-between [] own indexes is are lie = absurd (false≢true is)
+  none-between (one ∷ limits) [] indexes is are lie = are
+  none-between (one ∷ limits) (first ∷ own) [] is are lie = lie
+  none-between (one ∷ limits) (first ∷ own) (index ∷ indexes) is are lie =
+      let low = lie.0 in
+      let high = lie.1 in
+      ⊎_elim
+      (λ empty.
+      let below = limits-hold (limit_moved (pos 1) one.last) one.first (first.last +ℤ pos 1) first.first
+      (moved-limit (pos 1) first.last one.last are.0.1) are.0.0 empty in
+      omega (arith, ints))
+      (λ later. none-between limits own indexes later are.1 lie.2) (or_cases (is_empty_between state one) (list_any (is_empty_between state) limits) is)
 
 -- ---- what a call gives
 
@@ -255,32 +311,29 @@ module _ (tree : Tree) (pairs : List (ℕ × ℕ)) (number : ℕ) (block : Block
   defined-given (Passed own) root steps borne is = (borne.0, borne.1)
   defined-given (Reached row reach) root steps borne is = component-has row reach root steps borne is
 
-  -- that it is, between two limits
-  reached-between : (first last : Limit) (low high index : ℤ) → IsLimit outer first low → IsLimit outer last high → low ≤ℤ index
-      → index ≤ℤ high → (row : ℕ) (reach : Reach) (root : ℕ) (steps : List Step) → first_index steps ≡ Some index → IsReachedHere row reach root steps
-      → are_reached tree state first last row reach reach.indexes ≡ true → HasValue inner root steps
-  reached-between first last low high index low_is high_is above below row reach root steps at borne is = by reach.indexes refl is
-    where
-      by : (indexes : List Index) → reach.indexes ≡ indexes → are_reached tree state first last row reach indexes ≡ true → HasValue inner root steps
-      by (own ∷ indexes) own_is is = component-has row reach root steps borne is
-      by [] none is =
-          ⊎_elim (λ whole. component-has row reach root steps borne whole)
-          (λ any.
-          let (one, listed, covers) = any-in (covers_between tree state row first last) (held_in state) any in
-          let has = covered-has tree caller store state numbers knows first last low high index low_is high_is above below row one (borne.way ++ steps)
-          borne.of_row
-          (first-behind_fields borne.selectors borne.way steps (borne.reached.none none) borne.matches ∙ at) covers
-          (held-here tree caller store state numbers knows state knows.holds one listed) in
-          (has.0, borne.same ∙ has.1))
-          (or_cases (gives_reached (table_of tree) state reach row) (list_any (covers_between tree state row first last) (held_in state)) is)
+  -- that it is, between limits
+  module _ (limits : List Between) (own : List Numbers) (between_are : AreBetween outer limits own) (steps : List Step) (index : ℤ)
+      (at : first_index steps ≡ Some index) (lie : LieBetween own (indexes_of steps)) where
+    reached-between : (row : ℕ) (reach : Reach) (root : ℕ) → IsReachedHere row reach root steps
+        → are_reached tree state limits row reach reach.indexes ≡ true → HasValue inner root steps
+    reached-between row reach root borne is = by reach.indexes refl is
+      where
+        by : (indexes : List Index) → reach.indexes ≡ indexes → are_reached tree state limits row reach indexes ≡ true → HasValue inner root steps
+        by (one ∷ indexes) own_is is = component-has row reach root steps borne is
+        by [] none is =
+            ⊎_elim (λ whole. component-has row reach root steps borne whole)
+            (λ held.
+            let few = borne.reached.none none in
+            let has = held-between tree caller store state numbers knows row limits own between_are held (borne.way ++ steps) index borne.of_row
+            (first-behind_fields borne.selectors borne.way steps few borne.matches ∙ at)
+            (subst (LieBetween own) (sym (indexes-behind_fields borne.selectors borne.way steps few borne.matches)) lie) in
+            (has.0, borne.same ∙ has.1))
+            (or_cases (gives_reached (table_of tree) state reach row) (holds_between tree state row limits) is)
 
-  between-given : (first last : Limit) (low high index : ℤ) → IsLimit outer first low → IsLimit outer last high → low ≤ℤ index
-      → index ≤ℤ high → (bearer : Bearer) (root : ℕ) (steps : List Step) → first_index steps ≡ Some index → IsBorneHere bearer root steps
-      → is_borne_between tree state first last bearer ≡ true → HasValue inner root steps
-  between-given first last low high index low_is high_is above below (Passed own) root steps at borne is = (borne.0, borne.1)
-  between-given first last low high index low_is high_is above below (Reached row reach) root steps at borne is =
-      reached-between first last low high index low_is high_is above below row reach root steps at borne
-      (and_parts (not (is_variable_row tree row)) (are_reached tree state first last row reach reach.indexes) is).1
+    between-given : (bearer : Bearer) (root : ℕ) → IsBorneHere bearer root steps → is_borne_between tree state limits bearer ≡ true → HasValue inner root steps
+    between-given (Passed range) root borne is = (borne.0, borne.1)
+    between-given (Reached row reach) root borne is =
+        reached-between row reach root borne (and_parts (not (is_variable_row tree row)) (are_reached tree state limits row reach reach.indexes) is).1
 
   -- ---- bounds of the callee
 
@@ -476,49 +529,68 @@ module _ (tree : Tree) (pairs : List (ℕ × ℕ)) (number : ℕ) (block : Block
   each-row : (rows : List ℕ) (f : ℕ → Claim) → ((row : ℕ) → Contains rows row → HoldsHere (f row)) → All HoldsHere (map f rows)
   each-row rows f each = All-map HoldsHere f rows (All-weaker (Contains rows) (λ row. HoldsHere (f row)) each rows (All-contains_itself rows))
 
-  -- all of a row
-  whole-given : (row : ℕ) (index : Option OrdinalRange) → ((steps : List Step) → IsOf tree row steps → HasComponent (all_parts tree) inner row steps)
-      → HoldsHere (all_of_row index row)
-  whole-given row None has = has
-  whole-given row (Some range) has = (record { first = range.first; last = range.last } ∷ [], (refl, refl, tt), λ steps index of_row at lie. has steps of_row)
-
   in-root : (path : Path) (row : ℕ) (steps : List Step) → Contains (rows_named tree path) row → HasValue inner path.root steps
       → HasComponent (all_parts tree) inner row steps
   in-root path row steps inside has = subst (λ (r : ℕ). HasValue inner r steps) (sym (named-root tree path row inside)) has
 
-  -- a component between two bounds of the callee
-  stretch-given : (path : Path) (span : fact.Span) → AreOutward tree number (fact.Defined path (span ∷ []))
-      → is_given tree bindings state (fact.Defined path (span ∷ [])) ≡ true → (row : ℕ) → Contains (rows_named tree path) row
-      → HoldsHere (defined_of tree (span ∷ []) row)
-  stretch-given path span outward is row inside =
-      let bearers = bearers_named tree bindings path in
-      let (a, b, a_is, b_is, a_has, b_has, either) = both-limits
-      (λ a b. is_at_most state (limit_moved (pos 1) b) a || list_all (is_borne_between tree state a b) bearers)
-      (limit_of_bound tree state bindings span.first) (limit_of_bound tree state bindings span.last) (are_borne_between tree state bearers)
-      (λ a b. refl) (λ b. refl) (λ a. refl) is in
-      let own_root = λ (r : ℕ) (own : Contains (span_roots span) r).
-      outward r (contains-more path.root (span_roots span ++ []) r (Contains-append_left (span_roots span) [] r own)) in
-      let low = bound-limit span.first a (λ r own. own_root r (Contains-append_left (bound_roots span.first) (bound_roots span.last) r own)) a_is a_has in
-      let high = bound-limit span.last b (λ r own. own_root r (Contains-append_right (bound_roots span.first) (bound_roots span.last) r own)) b_is b_has in
-      let lies = λ (steps : List Step) (index : ℤ) (of_row : IsOf tree row steps) (at : first_index steps ≡ Some index)
-      (above : low.n ≤ℤ index) (below : index ≤ℤ high.n).
-      ⊎_elim
-      (λ (empty : is_at_most state (limit_moved (pos 1) b) a ≡ true).
-      let less = limits-hold tree caller store state numbers knows (limit_moved (pos 1) b) a (high.n +ℤ pos 1) low.n
-      (moved-limit tree caller store state numbers knows (pos 1) high.n b high.is_limit) low.is_limit empty in
-      absurd (omega (arith, ints, less, above, below)))
-      (λ (each : list_all (is_borne_between tree state a b) bearers ≡ true).
-      let borne = borne-at path (outward path.root (0, omega arith, refl)) row steps inside of_row in
-      in-root path row steps inside
-      (between-given a b low.n high.n index low.is_limit high.is_limit above below borne.bearer path.root steps at borne.borne
-      (all-bearers (is_borne_between tree state a b) bearers borne.bearer each borne.inside)))
-      (or_cases (is_at_most state (limit_moved (pos 1) b) a) (list_all (is_borne_between tree state a b) bearers) either) in (
-        record { first = low.n; last = high.n } ∷ [],
-        (low.is_bound, high.is_bound, tt),
-        λ steps index of_row at lie.
-            let within = subst (LieBetween (record { first = low.n; last = high.n } ∷ [])) (first-of steps index at).1 lie in
-            lies steps index of_row at within.0 within.1,
+  -- the limits of spans of the callee are numbers there
+  abbrev HaveLimits : List fact.Span → List Between → Type 0
+  HaveLimits spans limits = (own : List Numbers) × AreBounds inner (map said_span spans) own × AreBetween outer limits own
+
+  limits-are : (spans : List fact.Span) (limits : List Between) → ((root : ℕ) → Contains (flat_map span_roots spans) root → IsOutward tree number root)
+      → limits_of tree state bindings spans ≡ Some limits → list_all have_values limits ≡ true → HaveLimits spans limits
+  limits-are [] limits outward is have = subst (HaveLimits []) (same_Some [] limits is) ([], tt, tt)
+  limits-are (span ∷ spans) limits outward is have =
+      let (one, more, one_is, more_is, same) = limits-and (limits_of_span tree state bindings span) (limits_of tree state bindings spans) limits is in
+      let (a, b, a_is, b_is, one_same) =
+      limits-ends (limit_of_bound tree state bindings span.first) (limit_of_bound tree state bindings span.last) one one_is in
+      let values = and_parts (have_values one) (list_all have_values more)
+      (subst (λ (all : List Between). list_all have_values all ≡ true) (sym same) have) in
+      let both = and_parts a.has_value b.has_value (subst (λ (l : Between). have_values l ≡ true) (sym one_same) values.0) in
+      let own_root = λ (r : ℕ) (inside : Contains (span_roots span) r).
+      outward r (Contains-append_left (span_roots span) (flat_map span_roots spans) r inside) in
+      let low = bound-limit span.first a
+      (λ r inside. own_root r (Contains-append_left (bound_roots span.first) (bound_roots span.last) r inside)) a_is both.0 in
+      let high = bound-limit span.last b
+      (λ r inside. own_root r (Contains-append_right (bound_roots span.first) (bound_roots span.last) r inside)) b_is both.1 in
+      let rest = limits-are spans more
+      (λ r inside. outward r (Contains-append_right (span_roots span) (flat_map span_roots spans) r inside)) more_is values.1 in
+      let numbers_of : Numbers = record { first = low.n; last = high.n } in
+      subst (HaveLimits (span ∷ spans)) same (
+        numbers_of ∷ rest.0,
+        (low.is_bound, high.is_bound, rest.1),
+        (subst (λ (l : Between). IsBetween outer l numbers_of) one_same (low.is_limit, high.is_limit), rest.2),
       )
+
+  -- the components between bounds of the callee
+  spans-given : (path : Path) (span : fact.Span) (spans : List fact.Span) → AreOutward tree number (fact.Defined path (span ∷ spans))
+      → is_given tree bindings state (fact.Defined path (span ∷ spans)) ≡ true → (row : ℕ) → Contains (rows_named tree path) row
+      → HoldsHere (defined_of tree (span ∷ spans) row)
+  spans-given path span spans outward is row inside = by (limits_of tree state bindings (span ∷ spans)) refl is
+    where
+      bearers : List Bearer
+      bearers = bearers_named tree bindings path
+
+      by : (found : Option (List Between)) → limits_of tree state bindings (span ∷ spans) ≡ found → are_borne_between tree state bearers found ≡ true
+          → HoldsHere (defined_of tree (span ∷ spans) row)
+      by None found is = absurd (false≢true is)
+      by (Some limits) found is =
+          let empty = list_any (is_empty_between state) limits in
+          let each = list_all (is_borne_between tree state limits) bearers in
+          let parts = and_parts (list_all have_values limits) (empty || each) is in
+          let own = limits-are (span ∷ spans) limits
+          (λ r own. outward r (contains-more path.root (flat_map span_roots (span ∷ spans)) r own)) found parts.0 in (
+            own.0,
+            own.1,
+            λ steps index of_row at lie.
+                ⊎_elim (λ none. absurd (none-between tree caller store state numbers knows limits own.0 (indexes_of steps) none own.2 lie))
+                (λ all.
+                let borne = borne-at path (outward path.root (0, omega arith, refl)) row steps inside of_row in
+                in-root path row steps inside
+                (between-given limits own.0 own.2 steps index at lie borne.bearer path.root borne.borne
+                (all-bearers (is_borne_between tree state limits) bearers borne.bearer all borne.inside)))
+                (or_cases empty each parts.1),
+          )
 
   claims-given : (one : Fact) → AreOutward tree number one → is_given tree bindings state one ≡ true → All HoldsHere (said tree one)
   claims-given (fact.Range path range) outward is =
@@ -531,15 +603,14 @@ module _ (tree : Tree) (pairs : List (ℕ × ℕ)) (number : ℕ) (block : Block
   claims-given (fact.Defined path []) outward is =
       each-row (rows_named tree path) (defined_of tree [])
       (λ row inside.
-      whole-given row (index_at (rows_of tree) row)
+      whole-told (all_parts tree) inner row (index_at (rows_of tree) row)
       (λ steps of_row.
       let borne = borne-at path (outward path.root (0, omega arith, refl)) row steps inside of_row in
       in-root path row steps inside
       (defined-given borne.bearer path.root steps borne.borne
       (all-bearers (is_defined_borne tree state) (bearers_named tree bindings path) borne.bearer is borne.inside))))
-  claims-given (fact.Defined path (span ∷ [])) outward is =
-      each-row (rows_named tree path) (defined_of tree (span ∷ [])) (stretch-given path span outward is)
-  claims-given (fact.Defined path (span ∷ other ∷ spans)) outward is = absurd (false≢true is)
+  claims-given (fact.Defined path (span ∷ spans)) outward is =
+      each-row (rows_named tree path) (defined_of tree (span ∷ spans)) (spans-given path span spans outward is)
   claims-given (fact.Order root other k) outward is =
       All-cons HoldsHere (Holding (Ordered root other k)) [] (order-given root other k outward is) (All-nil HoldsHere)
 

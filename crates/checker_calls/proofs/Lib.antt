@@ -29,6 +29,7 @@ pub mod Borne
 pub mod ExitBearers
 pub mod CallLeaves
 pub mod Behind
+pub mod HeldBetween
 pub mod Given
 pub mod BehindExits
 pub mod Steady

@@ -1,15 +1,14 @@
 -- The facts that hold where a called block begins, as they are given where it is called (ISO 7185:1990, 6.6.3): each
 -- formal parameter stands for its actual one. It does not say what the block goes by then.
-use Rattle.std.specs.Prelude.{ℕ, ℤ, pos, Bool, true, false, not, ◌&&◌, ◌||◌, List, [], ◌∷◌, Option, Some, None, nat_eq}
-use Rattle.std.specs.Prelude.{if◌then◌else◌, option_map}
+use Rattle.std.specs.Prelude.{ℕ, ℤ, pos, Bool, true, false, not, ◌&&◌, ◌||◌, List, [], ◌∷◌, Option, Some, None}
+use Rattle.std.specs.Prelude.{if◌then◌else◌, map, option_map}
 use Rattle.std.specs.List.{list_all, list_any}
 use Rattle.typed_tree.specs.declared.tree.Tree.{Tree}
 use Rattle.domain.specs.Interval.{Interval, is_included}
 use Rattle.domain.specs.Facts as fact
 use Rattle.checker_state.specs.Bounds.{Bound, constant, plus, raised_bound}
-use Rattle.checker_state.specs.State.{Dead, Held, Live, Ordered, Span, State, Stretched, at_most, bound_range}
-use Rattle.checker_state.specs.State.{has_value}
-use Rattle.checker_state.specs.State.{is_below, is_dead, moved, range_of}
+use Rattle.checker_state.specs.State.{Dead, Live, State, Wanted, at_most, bound_range, has_value, is_below, is_dead}
+use Rattle.checker_state.specs.State.{is_had, moved, range_of}
 use Rattle.checker_state.specs.Stores.{Index, Reach, gives_reached}
 use Rattle.checker_state.specs.State.{table_of}
 use Rattle.checker_rows.specs.Rows.{is_ordinal_variable, is_variable_row}
@@ -89,41 +88,68 @@ is_at_most state a b = forms_at_most state a.form b.form || is_below a.range b.r
 
 -- ---- what is given
 
--- a span that is held has all between two limits
-abbrev pub has_between : Tree → State → Limit → Limit → List Span → Bool
-has_between tree state first last (span ∷ []) =
-    is_at_most state (limit_of tree state span.first) first && is_at_most state last (limit_of tree state span.last)
-has_between tree state first last spans = false
+-- the limits of a span of the callee
+pub record Between : Type 0 where
+  pub first : Limit
+  pub last : Limit
 
--- what is held of a row has
-abbrev pub covers_between : Tree → State → ℕ → Limit → Limit → Held → Bool
-covers_between tree state row first last (Stretched stretch) =
-    nat_eq stretch.row row && has_between tree state first last stretch.spans
-covers_between tree state row first last (Ordered root other number) = false
+-- both have values
+abbrev pub have_values : Between → Bool
+have_values limits = limits.first.has_value && limits.last.has_value
 
-abbrev pub held_in : State → List Held
-held_in Dead = []
-held_in (Live known) = known.held
+-- no index lies between them
+abbrev pub is_empty_between : State → Between → Bool
+is_empty_between state limits = is_at_most state (limit_moved (pos 1) limits.last) limits.first
 
--- the components of a row between two limits are known to be defined, where all of it is passed; or where a part is
-abbrev pub are_reached : Tree → State → Limit → Limit → ℕ → Reach → List Index → Bool
-are_reached tree state first last row reach [] =
-    gives_reached (table_of tree) state reach row || list_any (covers_between tree state row first last) (held_in state)
-are_reached tree state first last row reach (index ∷ indexes) = gives_reached (table_of tree) state reach row
+-- what is asked of the span between them
+abbrev pub wanted_between : Tree → State → Between → Wanted
+wanted_between tree state limits = record {
+  begins = λ bound. is_at_most state (limit_of tree state bound) limits.first;
+  ends = λ bound. is_at_most state limits.last (limit_of tree state bound);
+}
+
+-- what is held of a row has what lies between limits
+abbrev pub holds_between : Tree → State → ℕ → List Between → Bool
+holds_between tree Dead row limits = false
+holds_between tree (Live known) row limits =
+    is_had known ((table_of tree).indexes row) row (map (wanted_between tree (Live known)) limits)
+
+-- the components of a row between limits are known to be defined, where all of it is passed; or where a part is
+abbrev pub are_reached : Tree → State → List Between → ℕ → Reach → List Index → Bool
+are_reached tree state limits row reach [] =
+    gives_reached (table_of tree) state reach row || holds_between tree state row limits
+are_reached tree state limits row reach (index ∷ indexes) = gives_reached (table_of tree) state reach row
 
 -- the row of a variable that is no structured one is its own: it has no elements
-abbrev pub is_borne_between : Tree → State → Limit → Limit → Bearer → Bool
-is_borne_between tree state first last (Passed range) = true
-is_borne_between tree state first last (Reached row reach) =
-    not (is_variable_row tree row) && are_reached tree state first last row reach reach.indexes
+abbrev pub is_borne_between : Tree → State → List Between → Bearer → Bool
+is_borne_between tree state limits (Passed range) = true
+is_borne_between tree state limits (Reached row reach) =
+    not (is_variable_row tree row) && are_reached tree state limits row reach reach.indexes
 
--- of each bearer the components between two limits are: both have values, and there is none between, or they are
-abbrev pub are_borne_between : Tree → State → List Bearer → Option Limit → Option Limit → Bool
-are_borne_between tree state bearers (Some first) (Some last) =
-    (first.has_value && last.has_value)
-    && (is_at_most state (limit_moved (pos 1) last) first
-    || list_all (is_borne_between tree state first last) bearers)
-are_borne_between tree state bearers first last = false
+-- of each bearer the components between limits are: all have values, and there are none between some, or they are
+abbrev pub are_borne_between : Tree → State → List Bearer → Option (List Between) → Bool
+are_borne_between tree state bearers None = false
+are_borne_between tree state bearers (Some limits) =
+    list_all have_values limits
+    && (list_any (is_empty_between state) limits || list_all (is_borne_between tree state limits) bearers)
+
+-- the limits of spans of the callee, if all are there
+abbrev pub both_limits : Option Limit → Option Limit → Option Between
+both_limits (Some first) (Some last) = Some (record { first = first; last = last })
+both_limits first last = None
+
+abbrev pub between_and : Option Between → Option (List Between) → Option (List Between)
+between_and (Some one) (Some more) = Some (one ∷ more)
+between_and one more = None
+
+abbrev pub limits_of_span : Tree → State → List Binding → fact.Span → Option Between
+limits_of_span tree state bindings span =
+    both_limits (limit_of_bound tree state bindings span.first) (limit_of_bound tree state bindings span.last)
+
+abbrev pub limits_of : Tree → State → List Binding → List fact.Span → Option (List Between)
+limits_of tree state bindings [] = Some []
+limits_of tree state bindings (span ∷ spans) =
+    between_and (limits_of_span tree state bindings span) (limits_of tree state bindings spans)
 
 -- two limits have values, and the first is at most the second
 abbrev pub are_ordered : State → Option Limit → Option Limit → Bool
@@ -131,13 +157,11 @@ are_ordered state (Some first) (Some last) =
     (first.has_value && last.has_value) && is_at_most state first last
 are_ordered state first last = false
 
--- of each bearer all is known to be defined, or what lies in a span of the callee
+-- of each bearer all is known to be defined, or what lies in spans of the callee
 abbrev pub are_borne : Tree → List Binding → State → List fact.Span → List Bearer → Bool
 are_borne tree bindings state [] bearers = list_all (is_defined_borne tree state) bearers
-are_borne tree bindings state (span ∷ []) bearers =
-    are_borne_between tree state bearers (limit_of_bound tree state bindings span.first)
-    (limit_of_bound tree state bindings span.last)
-are_borne tree bindings state spans bearers = false
+are_borne tree bindings state (span ∷ spans) bearers =
+    are_borne_between tree state bearers (limits_of tree state bindings (span ∷ spans))
 
 -- a fact of the callee holds where it is called
 abbrev pub is_given : Tree → List Binding → State → fact.Fact → Bool

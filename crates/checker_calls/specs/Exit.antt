@@ -15,7 +15,7 @@ use Rattle.checker_rows.specs.Limits.{row_limits}
 use Rattle.checker_rows.specs.Rows.{index_at, is_variable_row, rows_of, rows_touched, rows_under, type_at}
 use Rattle.checker_state.specs.Bounds.{Bound, constant, moved_bound, plus}
 use Rattle.checker_state.specs.State.{Holds, Span, State, Stretched, range_of, with_range}
-use Rattle.checker_state.specs.Changes.{all_changed, bound_rests_on, ordered, with_some}
+use Rattle.checker_state.specs.Changes.{all_changed, both_there, bound_rests_on, ordered, span_between, with_some}
 use Rattle.checker_state.specs.Loops.{is_among, with_claim}
 use Rattle.checker_state.specs.Stores.{all_of_row, is_entire}
 use Rattle.checker_loops.specs.Loops.{rows_named}
@@ -172,16 +172,15 @@ exit_bound tree bindings touches (fact.Number n) = Some (constant n)
 exit_bound tree bindings touches (fact.Plus root n) = exit_plus tree bindings touches root n
 
 -- a span of the callee at its end, if both of its bounds are there
-abbrev pub span_between : Option Bound → Option Bound → Option (List Span)
-span_between (Some first) (Some last) = Some (record { first = first; last = last } ∷ [])
-span_between first last = None
+abbrev pub exit_span : Tree → List Binding → Touches → fact.Span → Option Span
+exit_span tree bindings touches span =
+    span_between (exit_bound tree bindings touches span.first) (exit_bound tree bindings touches span.last)
 
--- at most one span of the callee at its end
+-- spans of the callee at its end, if all are there
 abbrev pub exit_spans : Tree → List Binding → Touches → List fact.Span → Option (List Span)
 exit_spans tree bindings touches [] = Some []
-exit_spans tree bindings touches (span ∷ []) =
-    span_between (exit_bound tree bindings touches span.first) (exit_bound tree bindings touches span.last)
-exit_spans tree bindings touches spans = None
+exit_spans tree bindings touches (span ∷ spans) =
+    both_there (exit_span tree bindings touches span) (exit_spans tree bindings touches spans)
 
 -- all of a row is defined, or what lies in spans; a variable that is no structured one has no elements
 abbrev pub row_defined : Tree → Option (List Span) → ℕ → State → State

@@ -16,6 +16,7 @@ use Rattle.types.specs.declared.form.TypeId.{TypeId}
 use Rattle.domain.specs.declared.facts.Bound.{Bound}
 use Rattle.domain.specs.declared.facts.Bound.TheVariants.{Number, Plus}
 use Rattle.domain.specs.declared.facts.Path.{Path}
+use Rattle.domain.specs.declared.facts.Span.{Span}
 use Rattle.domain.specs.declared.facts.Spans.{Spans}
 use Rattle.domain.specs.declared.facts.Spans.TheVariants as kept_spans
 use Rattle.domain.specs.Facts.{said_path}
@@ -42,6 +43,14 @@ has_elements form = false
 abbrev pub is_array : List Form → TypeId → Bool
 is_array types id = has_elements (form_at types id)
 
+-- those elements are arrays
+abbrev pub has_arrays : List Form → Option Form → Bool
+has_arrays types (Some (Array packed index element)) = is_array types element
+has_arrays types form = false
+
+abbrev pub is_matrix : List Form → TypeId → Bool
+is_matrix types id = has_arrays types (form_at types id)
+
 -- the variable of a bound, if it has one, is of an ordinal type
 abbrev pub bound_is_known : Tree → Bound → Bool
 bound_is_known tree (Number number) = true
@@ -51,10 +60,15 @@ bound_is_known tree (Plus root number) = is_ordinal_variable tree root
 abbrev pub has_indexes : List Form → Spans → TypeId → Bool
 has_indexes types kept_spans.None id = true
 has_indexes types (kept_spans.One span) id = is_array types id
+has_indexes types (kept_spans.Two span inner) id = is_matrix types id
+
+abbrev pub span_is_known : Tree → Span → Bool
+span_is_known tree span = bound_is_known tree span.first && bound_is_known tree span.last
 
 abbrev pub spans_are_known : Tree → Spans → Bool
 spans_are_known tree kept_spans.None = true
-spans_are_known tree (kept_spans.One span) = bound_is_known tree span.first && bound_is_known tree span.last
+spans_are_known tree (kept_spans.One span) = span_is_known tree span
+spans_are_known tree (kept_spans.Two span inner) = span_is_known tree span && span_is_known tree inner
 
 -- a fact names parts of variables: a range those of an ordinal or a set type, spans elements; its bounds and the
 -- variables of an order are of ordinal types
@@ -69,9 +83,13 @@ abbrev pub bound_roots : Bound → List ℕ
 bound_roots (Number number) = []
 bound_roots (Plus root number) = root ∷ []
 
+abbrev pub span_roots : Span → List ℕ
+span_roots span = bound_roots span.first ++ bound_roots span.last
+
 abbrev pub spans_roots : Spans → List ℕ
 spans_roots kept_spans.None = []
-spans_roots (kept_spans.One span) = bound_roots span.first ++ bound_roots span.last
+spans_roots (kept_spans.One span) = span_roots span
+spans_roots (kept_spans.Two span inner) = span_roots span ++ span_roots inner
 
 abbrev pub fact_roots : Fact → List ℕ
 fact_roots (Range path range) = path.root ∷ []

@@ -1,24 +1,24 @@
-ghost use Rattle.std.specs.Prelude.{◌≡◌, ◌||◌, map, pos};
+ghost use Rattle.std.specs.Prelude.{◌≡◌, ◌||◌, map};
 ghost use Rattle.std.specs.List.{list_all, list_any};
 ghost use Rattle.certificate.specs.Contents.{said_fact};
 ghost use Rattle.checker_rows.specs.View.{numbers};
 ghost use Rattle.checker_state.specs.State.{range_of, table_of};
 ghost use Rattle.checker_state.specs.Stores.{gives_reached};
-ghost use Rattle.checker_state.specs.View.{said_held, said_reach};
+ghost use Rattle.checker_state.specs.View.{said_reach};
 ghost use Rattle.checker_trail.specs.Trail.{seen};
 ghost use Rattle.domain.specs.Facts.{said_spans};
 ghost use Rattle.domain.specs.Interval.{is_included};
 ghost use Rattle.checker_calls.specs.Actuals.{Reached};
-ghost use Rattle.checker_calls.specs.Entry.{are_borne, are_borne_between, are_given, are_ordered, covers_between};
-ghost use Rattle.checker_calls.specs.Entry.{held_in, is_at_most, is_borne_between, is_defined_borne, is_given};
-ghost use Rattle.checker_calls.specs.Entry.{limit_moved, range_borne};
-ghost use Rattle.checker_calls.specs.View.{said_bearers, said_bindings, said_limit, said_some_limit};
+ghost use Rattle.checker_calls.specs.Entry.{are_borne, are_borne_between, are_given, are_ordered, is_borne_between};
+ghost use Rattle.checker_calls.specs.Entry.{is_defined_borne, is_empty_between, is_given, range_borne};
+ghost use Rattle.checker_calls.specs.View.{said_bearers, said_bindings, said_limits, said_some_limit, said_some_limits};
 
 use crate::actuals::{Bearers, Bindings, bearers_named, is_variable_row};
-use crate::limits::{Limit, limit_above, limit_of};
+use crate::between::{Limits, limits_of};
+use crate::limits::{Limit, limit_above};
 use certificate::Fact;
 use checker_rows::Span;
-use checker_state::{Held, Indexes, Reach};
+use checker_state::{Indexes, Reach};
 use checker_trail::State;
 use domain::Domain;
 use domain::facts::Spans;
@@ -99,19 +99,21 @@ fn rows_within(state: &State, rows: Span, range: Interval) -> bool
     true
 }
 
-// Whether of each bearer all is known to be defined, or what lies in a span of the callee.
+// Whether of each bearer all is known to be defined, or what lies in spans of the callee.
 fn are_borne(bindings: Bindings, state: &State, spans: Spans, bearers: &Bearers) -> bool
     ensures { result ≡ are_borne state.now.table.now (said_bindings bindings.entry) (seen state.now) (said_spans spans)
         (said_bearers bearers.now) }
 {
     match spans {
         Spans::None => are_defined(state, bearers),
-        Spans::One(span) => are_between(
-            state,
-            bearers,
-            limit_of(state, bindings, span.first),
-            limit_of(state, bindings, span.last),
-        ),
+        Spans::One(span) => are_between(state, bearers, limits_of(state, bindings, span, None)),
+        Spans::Two(span, inner) => {
+            are_between(
+                state,
+                bearers,
+                limits_of(state, bindings, span, Some(inner)),
+            )
+        }
     }
 }
 
@@ -150,85 +152,52 @@ fn are_ordered(state: &State, first: Option<Limit>, last: Option<Limit>) -> bool
     }
 }
 
-// Whether of each bearer the components between two limits are defined.
-fn are_between(state: &State, bearers: &Bearers, first: Option<Limit>, last: Option<Limit>) -> bool
+// Whether of each bearer the components between limits are defined.
+fn are_between(state: &State, bearers: &Bearers, limits: Option<Limits>) -> bool
     ensures { result ≡ are_borne_between state.now.table.now (seen state.now) (said_bearers bearers.now)
-        (said_some_limit first) (said_some_limit last) }
+        (said_some_limits limits) }
 {
-    match (first, last) {
-        (Some(first), Some(last)) => {
-            first.has_value && last.has_value && lie_between(state, bearers, &first, &last)
-        }
-        _ => false,
+    match limits {
+        Some(limits) => limits.have_values() && lie_between(state, bearers, &limits),
+        None => false,
     }
 }
 
-// Whether there are none between the limits, or they are defined.
-fn lie_between(state: &State, bearers: &Bearers, first: &Limit, last: &Limit) -> bool
-    ensures { result ≡ (is_at_most (seen state.now) (limit_moved (pos 1) (said_limit last.now)) (said_limit first.now)
-        || list_all (is_borne_between state.now.table.now (seen state.now) (said_limit first.now) (said_limit last.now))
+// Whether there are none between some of the limits, or they are defined.
+fn lie_between(state: &State, bearers: &Bearers, limits: &Limits) -> bool
+    ensures { result ≡ (list_any (is_empty_between (seen state.now)) (said_limits limits.now)
+        || list_all (is_borne_between state.now.table.now (seen state.now) (said_limits limits.now))
         (said_bearers bearers.now)) }
 {
-    last.lies_below(state, first)
+    limits.have_empty(state)
         || match bearers {
             Bearers::Passed(_) => true,
-            Bearers::Reached { rows, reach } => rows_between(state, *rows, reach, first, last),
+            Bearers::Reached { rows, reach } => rows_between(state, *rows, reach, limits),
         }
 }
 
-// Whether of each of some rows the components between two limits are defined, where this is passed of it.
-fn rows_between(state: &State, rows: Span, reach: &Reach, first: &Limit, last: &Limit) -> bool
-    ensures { result ≡ list_all (λ row. is_borne_between state.now.table.now (seen state.now) (said_limit first.now)
-        (said_limit last.now) (Reached row (said_reach reach.now))) (numbers rows) }
+// Whether of each of some rows the components between limits are defined, where this is passed of it.
+fn rows_between(state: &State, rows: Span, reach: &Reach, limits: &Limits) -> bool
+    ensures { result ≡ list_all (λ row. is_borne_between state.now.table.now (seen state.now) (said_limits limits.now)
+        (Reached row (said_reach reach.now))) (numbers rows) }
 {
     for row in rows.first..rows.end() {
-        if !is_between(state, row, reach, first, last) {
+        if !is_between(state, row, reach, limits) {
             return false;
         }
     }
     true
 }
 
-fn is_between(state: &State, row: usize, reach: &Reach, first: &Limit, last: &Limit) -> bool
-    ensures { result ≡ is_borne_between state.now.table.now (seen state.now) (said_limit first.now)
-        (said_limit last.now) (Reached row (said_reach reach.now)) }
+fn is_between(state: &State, row: usize, reach: &Reach, limits: &Limits) -> bool
+    ensures { result ≡ is_borne_between state.now.table.now (seen state.now) (said_limits limits.now)
+        (Reached row (said_reach reach.now)) }
 {
     !is_variable_row(state.table(), row)
         && (state.gives_reached(reach, row)
             || match reach.indexes {
-                Indexes::Entire => holds_between(state, row, first, last),
+                Indexes::Entire => limits.are_held(state, row),
                 Indexes::One(_) => false,
                 Indexes::Two(_, _) => false,
             })
-}
-
-// Whether a stretch of a row is held that has all between two limits.
-fn holds_between(state: &State, row: usize, first: &Limit, last: &Limit) -> bool
-    ensures { result ≡ list_any (covers_between state.now.table.now (seen state.now) row (said_limit first.now)
-        (said_limit last.now)) (held_in (seen state.now)) }
-{
-    if state.is_dead() {
-        return false;
-    }
-    for held in state.held() {
-        if has_between(state, row, first, last, held) {
-            return true;
-        }
-    }
-    false
-}
-
-fn has_between(state: &State, row: usize, first: &Limit, last: &Limit, held: &Held) -> bool
-    ensures { result ≡ covers_between state.now.table.now (seen state.now) row (said_limit first.now)
-        (said_limit last.now) (said_held held.now) }
-{
-    match held {
-        Held::Stretched(stretch) => {
-            stretch.row == row
-                && stretch.inner.is_none()
-                && Limit::of(state, stretch.span.first).is_at_most(state, first)
-                && last.is_at_most(state, &Limit::of(state, stretch.span.last))
-        }
-        Held::Ordered(_) => false,
-    }
 }

@@ -1,18 +1,20 @@
-ghost use Rattle.std.specs.Prelude.{◌≡◌, ℕ, IfOk, Some, map, not, option_map, slice_get};
+ghost use Rattle.std.specs.Prelude.{◌≡◌, ◌∷◌, ℕ, IfOk, Some, map, not, option_map, slice_get};
 ghost use Rattle.certificate.specs.Contents.{said_fact};
 ghost use Rattle.checker_rows.specs.Rows.{rows_touched};
 ghost use Rattle.checker_rows.specs.View.{numbers};
 ghost use Rattle.checker_state.specs.Changes.{all_changed};
 ghost use Rattle.checker_state.specs.Knows.{rests_on_any};
-ghost use Rattle.checker_state.specs.View.{inner_spans, said_form, said_held};
+ghost use Rattle.checker_state.specs.View.{inner_spans, said_form, said_held, said_span, said_span_form};
 ghost use Rattle.checker_trail.specs.Trail.{Moves};
-ghost use Rattle.domain.specs.Facts.{said_bound as said_claimed, said_path, said_spans};
+ghost use Rattle.domain.specs.Facts.{said_bound as said_claimed, said_path, said_span as said_claimed_span};
+ghost use Rattle.domain.specs.Facts.{said_spans};
 ghost use Rattle.checker_loops.specs.BlockView.{said_claims};
 ghost use Rattle.checker_calls.specs.Actuals.{all_of_rows};
 ghost use Rattle.checker_calls.specs.Exit.{bearers_defined, behind_call, bounds_ordered, exit_bound, exit_bound_of};
-ghost use Rattle.checker_calls.specs.Exit.{exit_plus, exit_spans, is_own_path, result_range, row_behind, row_defined};
+ghost use Rattle.checker_calls.specs.Exit.{exit_plus, exit_span, exit_spans, is_own_path, result_range, row_behind};
+ghost use Rattle.checker_calls.specs.Exit.{row_defined};
 ghost use Rattle.checker_calls.specs.Exit.{rows_behind, touched_behind, untouched_form, with_exit, with_exits};
-ghost use Rattle.checker_calls.specs.View.{said_actual, said_bindings};
+ghost use Rattle.checker_calls.specs.View.{said_actual, said_bindings, said_within};
 ghost use Rattle.checker_calls.specs.ExitView.{left_behind, rows_outside, steady_at, touched_by, touches_by};
 
 use crate::actuals::{Actual, Bearers, Bindings, bearers_named, is_entire, is_variable_row};
@@ -24,12 +26,20 @@ use certificate::Fact;
 use checker_loops::pairs::Pairs;
 use checker_loops::sections::BlockClaims;
 use checker_rows::{Rows, Span};
-use checker_state::{Bound, Held, Order, Span as Within, Stretch};
+use checker_state::{Bound, Held, Order, Span as StateSpan, Stretch};
 use checker_trail::{State, all_of_row};
 use domain::facts::{self, Path, Spans};
 use domain::interval::Interval;
 use std::alloc::{AllocError, Global};
 use typed_tree::tree::Tree;
+
+/// What is defined of a row at the end of a callee: all of it, or what lies in a span, or in two.
+#[derive(Clone, Copy)]
+pub enum Within {
+    All,
+    One(StateSpan),
+    Two(StateSpan, StateSpan),
+}
 
 /// Goes on in one block behind a call of another (ISO 7185:1990, 6.7.3, 6.8.2.3), by what is claimed of that.
 pub fn call(
@@ -251,9 +261,9 @@ fn is_own_path(tree: &Tree, block: u32, bindings: Bindings, path: &Path) -> bool
     }
 }
 
-// All of each of some rows is defined, or what lies in a span; nothing, where that isn't known.
-fn define_rows(state: &mut State, rows: &Rows, within: Option<Option<Within>>, span: Span)
-    ensures { Moves (bearers_defined rows.now (option_map inner_spans within) (all_of_rows (numbers span)))
+// All of each of some rows is defined, or what lies in spans; nothing, where that isn't known.
+fn define_rows(state: &mut State, rows: &Rows, within: Option<Within>, span: Span)
+    ensures { Moves (bearers_defined rows.now (option_map said_within within) (all_of_rows (numbers span)))
         state.old state.new }
 {
     for row in span.first..span.end() {
@@ -261,18 +271,28 @@ fn define_rows(state: &mut State, rows: &Rows, within: Option<Option<Within>>, s
     }
 }
 
-fn define_row(state: &mut State, rows: &Rows, within: Option<Option<Within>>, row: usize)
-    ensures { Moves (row_defined rows.now (option_map inner_spans within) row) state.old state.new }
+fn define_row(state: &mut State, rows: &Rows, within: Option<Within>, row: usize)
+    ensures { Moves (row_defined rows.now (option_map said_within within) row) state.old state.new }
 {
     match within {
         None => {}
-        Some(None) => state.claim(&all_of_row(rows.index(row), row)),
-        Some(Some(span)) => {
-            if !is_variable_row(rows, row) {
-                let inner = None;
-                state.hold(Held::Stretched(Stretch { row, span, inner }));
-            }
-        }
+        Some(Within::All) => state.claim(&all_of_row(rows.index(row), row)),
+        Some(Within::One(span)) => define_stretch(state, rows, row, span, None),
+        Some(Within::Two(span, inner)) => define_stretch(state, rows, row, span, Some(inner)),
+    }
+}
+
+fn define_stretch(
+    state: &mut State,
+    rows: &Rows,
+    row: usize,
+    span: StateSpan,
+    inner: Option<StateSpan>,
+)
+    ensures { Moves (row_defined rows.now (Some (said_span span ∷ inner_spans inner)) row) state.old state.new }
+{
+    if !is_variable_row(rows, row) {
+        state.hold(Held::Stretched(Stretch { row, span, inner }));
     }
 }
 
@@ -290,24 +310,38 @@ fn order(state: &mut State, first: Option<Bound>, last: Option<Bound>)
 
 // ---- bounds at the end
 
-// The span of the callee at its end, if it has one: nothing, where a bound of it isn't known.
-fn exit_spans(
-    rows: &Rows,
-    bindings: Bindings,
-    touches: &Touches,
-    spans: Spans,
-) -> Option<Option<Within>>
-    ensures { option_map inner_spans result
+// Spans of the callee at its end: nothing, where a bound of them isn't known.
+fn exit_spans(rows: &Rows, bindings: Bindings, touches: &Touches, spans: Spans) -> Option<Within>
+    ensures { option_map said_within result
         ≡ exit_spans rows.now (said_bindings bindings.entry) touches.now (said_spans spans) }
 {
     match spans {
-        Spans::None => Some(None),
+        Spans::None => Some(Within::All),
         Spans::One(span) => {
-            let first = exit_bound(rows, bindings, touches, span.first)?;
-            let last = exit_bound(rows, bindings, touches, span.last)?;
-            Some(Some(Within { first, last }))
+            let span = exit_span(rows, bindings, touches, span)?;
+            Some(Within::One(span))
+        }
+        Spans::Two(span, inner) => {
+            let span = exit_span(rows, bindings, touches, span)?;
+            let inner = exit_span(rows, bindings, touches, inner)?;
+            Some(Within::Two(span, inner))
         }
     }
+}
+
+fn exit_span(
+    rows: &Rows,
+    bindings: Bindings,
+    touches: &Touches,
+    span: facts::Span,
+) -> Option<StateSpan>
+    ensures { said_span_form result
+        ≡ exit_span rows.now (said_bindings bindings.entry) touches.now (said_claimed_span span) }
+{
+    StateSpan::between(
+        exit_bound(rows, bindings, touches, span.first),
+        exit_bound(rows, bindings, touches, span.last),
+    )
 }
 
 // A bound of the callee at its end, where it is called: it says nothing where that isn't known.

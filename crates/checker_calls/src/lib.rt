@@ -2,6 +2,7 @@
 #![tactic(auto)]
 
 pub mod actuals;
+mod between;
 pub mod changes;
 pub mod entry;
 pub mod exit;

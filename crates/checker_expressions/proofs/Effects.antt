@@ -182,7 +182,7 @@ module _ (tree : Tree) (blocks : List BlockClaims) (declares : DeclareTheirs tre
   keeps-selected (Element fits cells ∷ selectors) others (index ∷ indexes) found context reach result stands there yields =
       let piece = walk.piece_of index.0 in
       let deeper = λ (own : Context) (range : Interval).
-      walk.deeper (record { form = walk.form_before own piece (pieces indexes); range = range }) reach in
+      walk.deeper (walk.is_kept own.version others) (record { form = walk.form_before own piece (pieces indexes); range = range }) reach in
       let behind = walk.behind_next others in
       let next = λ (range : Interval) (own : Context). walk.indexes_walk behind (pieces indexes) (deeper own range) in
       let one = yields-then context piece.walk

@@ -43,7 +43,7 @@ use Rattle.checker_expressions.specs.Walk.{width_test}
 use Rattle.checker_expressions.specs.Walk.{PassedPiece, actuals_walk, call_walk, called_block, fitting, form_before, passed_piece_of, passed_step, result_of}
 use Rattle.checker_expressions.specs.Walk.{result_walk}
 use Rattle.checker_expressions.specs.Walk.{piece_step, link_step, piece_of, joint_of, value_walk}
-use Rattle.checker_expressions.specs.Walk.{access_walk, behind_next, deeper, index_test, index_pieces, indexes_walk, link_walk, next_test, value_use}
+use Rattle.checker_expressions.specs.Walk.{access_walk, behind_next, deeper, index_test, index_pieces, indexes_walk, is_kept, link_walk, next_test, value_use}
 use Rattle.checker_expressions.specs.Walk.{whole_walk, width_walk}
 use Rattle.checker_expressions.specs.Walk.{written_walk, parameter_walk, in_turn}
 
@@ -147,7 +147,7 @@ indexes-entered selectors [] reach [] all context state = refl
 indexes-entered selectors (piece ∷ pieces) reach (numbers ∷ rows) all context state =
     let first = piece.walk context state in
     let test = index_test (next_test selectors) first.value context first.after in
-    let next = deeper (record { form = form_before context piece pieces; range = test.value }) reach in
+    let next = deeper (is_kept context.version selectors) (record { form = form_before context piece pieces; range = test.value }) reach in
     let rest = indexes_walk (behind_next selectors) pieces next context test.after in
     and_then first.linked (test.linked ++ rest.linked) numbers (joined rows) (all.0 context state)
     (and_then test.linked rest.linked [] (joined rows) (tested-silent (next_test selectors) first.value context first.after)

@@ -22,8 +22,8 @@ use Rattle.checker_expressions.specs.declared.fault.Breach.{Breach}
 use Rattle.checker_expressions.specs.declared.flow.Flow.{Flow}
 use Rattle.checker_expressions.specs.View.{Goes, context_of, state_of}
 use Rattle.checker_expressions.specs.Walk.{Gathering, Linked, Walked, Walking, ◌>>=◌, actuals_walk, behind_next, deeper, form_before_by, gathered, give}
-use Rattle.checker_expressions.specs.Walk.{in_turn, index_pieces, index_test, indexes_walk, link_walk, members_walk, next_test, passed_piece_of, piece_of}
-use Rattle.checker_expressions.specs.Walk.{value_walk}
+use Rattle.checker_expressions.specs.Walk.{in_turn, index_pieces, index_test, indexes_walk, is_kept, link_walk, members_walk, next_test, passed_piece_of}
+use Rattle.checker_expressions.specs.Walk.{piece_of, value_walk}
 use Rattle.checker_expressions.specs.Visits.{all_counted}
 use Rattle.checker_expressions.proofs.Counted.{counted-both}
 use Rattle.checker_expressions.proofs.Flows.{goes-alike, goes-as, goes-give, goes-then}
@@ -65,8 +65,9 @@ index_at ordinal index more range = record { form = form_before_by ordinal (piec
 
 -- the index expressions behind one of them, by where that lies
 abbrev behind_walk : List Selector → Expr → List Expr → Reach → Interval → Walking Reach
-behind_walk behind index more reach range context =
-    indexes_walk behind (index_pieces more) (deeper (index_at (is_ordinal_variable context.tree) index more range) reach) context
+behind_walk selectors index more reach range context =
+    indexes_walk (behind_next selectors) (index_pieces more)
+    (deeper (is_kept context.version selectors) (index_at (is_ordinal_variable context.tree) index more range) reach) context
 
 -- which variables are ordinals where a flow is
 abbrev pub ordinal_in : Flow → ℕ → Bool
@@ -76,15 +77,16 @@ pub index-step : (selectors : List Selector) (items : List Expr) (i : ℕ) (inde
     {old mid tested new : Flow} {result : Reach} → i < length items → index ≡ get_or items i index → Goes (value_walk index) old mid known
     → Goes (index_test (next_test selectors) known) mid tested range
     → Goes (indexes_walk (behind_next selectors) (index_pieces (drop (i + 1) items))
-    (deeper (index_at (ordinal_in tested) index (drop (i + 1) items) range) reach)) tested new result
+    (deeper (is_kept tested.grounds.version selectors) (index_at (ordinal_in tested) index (drop (i + 1) items) range) reach)) tested new result
     → Goes (indexes_walk selectors (index_pieces (drop i items)) reach) old new result
 index-step selectors items i index reach {known = known} {range = range} {tested = tested} inside is one two three =
     let more = drop (i + 1) items in
-    let behind = behind_walk (behind_next selectors) index more reach in
+    let behind = behind_walk selectors index more reach in
     goes-as (sym (ap (λ indexes. indexes_walk selectors (index_pieces indexes) reach) (item-cut items i index inside is)))
     (goes-then (value_walk index) (λ known. index_test (next_test selectors) known >>= behind) one
     (goes-then (index_test (next_test selectors) known) behind two
-    (goes-alike (indexes_walk (behind_next selectors) (index_pieces more) (deeper (index_at (ordinal_in tested) index more range) reach)) (behind range)
+    (goes-alike (indexes_walk (behind_next selectors) (index_pieces more)
+    (deeper (is_kept tested.grounds.version selectors) (index_at (ordinal_in tested) index more range) reach)) (behind range)
     (λ claims. refl) three)))
 
 pub index-end : (selectors : List Selector) (items : List Expr) (i : ℕ) (reach : Reach) (flow : Flow) → length items ≤ i

@@ -72,7 +72,7 @@ use Rattle.checker_calls.proofs.Origins.{rows-same}
 use Rattle.checker_calls.proofs.Passed.{AreIntegers, Leads, indexes-integer}
 use Rattle.checker_calls.proofs.Reached.{alive}
 use Rattle.checker_expressions.specs.Walk.{Context, Piece, Walking, access_walk, all_joined, behind_steps, deeper, deeper_by, form_before_by, form_by}
-use Rattle.checker_expressions.specs.Walk.{hold_call, index_test, indexes_walk, reach_at, rows_value, scalar_of}
+use Rattle.checker_expressions.specs.Walk.{behind_next, hold_call, index_test, indexes_walk, is_kept, next_test, reach_at, rows_value, scalar_of}
 use Rattle.checker_expressions.specs.Walk.{is_covered}
 use Rattle.checker_expressions.specs.Walk.{ranges_of, text_range, value_use, whole_walk, with_used}
 use Rattle.checker_expressions.proofs.Fitting.{same-type}
@@ -142,12 +142,6 @@ module _ (outline : Outline) (block : ℕ) (wanted : TypeId → Bool) (origin : 
   pub leads-type : of_type ≡ true
   leads-type = inner.1
 
--- a field takes no index
-field-same : (position : ℕ) (offset : ℕ) (selectors : List Selector) (pieces : List Piece) (reach : Reach)
-    → indexes_walk (Field position offset ∷ selectors) pieces reach ≡ indexes_walk selectors pieces reach
-field-same position offset selectors [] reach = refl
-field-same position offset selectors (index ∷ pieces) reach = refl
-
 -- ---- replies
 
 entered-leaves : (number : ℕ) (env : Environment) → Leaves (effect.enter number env)
@@ -187,7 +181,7 @@ IsFormless reach = AreFormless reach.indexes
 
 -- what isn't all of the first indexes has two of them
 abbrev IsBegun : Reach → Type 0
-IsBegun reach = reach.is_all ≡ false → 2 ≤ length reach.indexes
+IsBegun reach = reach.is_all ≡ false → 1 ≤ length reach.indexes
 
 -- an index that passed its test, and what is known of it
 in-test : (range : OrdinalRange) (v : Value) → IsOf scalar.Ordinal v → is_in range v ≡ true
@@ -251,11 +245,11 @@ module _ (env : Environment) (store : Store) where
     abbrev own : List Selector
     own = Element fits cells ∷ []
 
-    further : (one two : Index) (more : List Index) → AreIndexesOn env store (one ∷ two ∷ more) (indexes_of way)
-        → IsReachedBy env store (before ++ own) longer (record { indexes = one ∷ two ∷ more; is_all = false })
-    further one two more are = record {
-      indexes = subst (λ (numbers : List ℤ). AreIndexesOn env store (one ∷ two ∷ more) numbers) (sym (indexes-then way (step.Element number ∷ [])))
-          (on-longer (one ∷ two ∷ more) (indexes_of way) (number ∷ []) are);
+    further : (one : Index) (more : List Index) → AreIndexesOn env store (one ∷ more) (indexes_of way)
+        → IsReachedBy env store (before ++ own) longer (record { indexes = one ∷ more; is_all = false })
+    further one more are = record {
+      indexes = subst (λ (numbers : List ℤ). AreIndexesOn env store (one ∷ more) numbers) (sym (indexes-then way (step.Element number ∷ [])))
+          (on-longer (one ∷ more) (indexes_of way) (number ∷ []) are);
       all = λ is. absurd (false≢true is);
       none = λ is. absurd (cc);
     }
@@ -275,19 +269,25 @@ module _ (env : Environment) (store : Store) where
           absurd (omega (arith, many, empty));
     }
 
-    deeper-reached : (is_all : Bool) (indexes : List Index) → (is_all ≡ false → 2 ≤ length indexes) → AreIndexesOn env store indexes (indexes_of way)
-        → (is_all ≡ true → length indexes ≡ index_count before)
-        → IsReachedBy env store (before ++ own) longer (deeper_by index indexes (record { indexes = indexes; is_all = is_all }))
-    deeper-reached true [] begun are all = next [] are (all refl)
-    deeper-reached true (one ∷ []) begun are all = next (one ∷ []) are (all refl)
-    deeper-reached true (one ∷ two ∷ more) begun are all = further one two more are
-    deeper-reached false [] begun are all = absurd (let few = begun refl in omega (arith, few))
-    deeper-reached false (one ∷ []) begun are all = absurd (let few = begun refl in omega (arith, few))
-    deeper-reached false (one ∷ two ∷ more) begun are all = further one two more are
+    deeper-reached : (keeps is_all : Bool) (indexes : List Index) → (is_all ≡ false → 1 ≤ length indexes)
+        → AreIndexesOn env store indexes (indexes_of way) → (is_all ≡ true → length indexes ≡ index_count before)
+        → IsReachedBy env store (before ++ own) longer (deeper_by (keeps && is_all) index indexes (record { indexes = indexes; is_all = is_all }))
+    deeper-reached true true [] begun are all = next [] are (all refl)
+    deeper-reached false true [] begun are all = next [] are (all refl)
+    deeper-reached true true (one ∷ []) begun are all = next (one ∷ []) are (all refl)
+    deeper-reached false true (one ∷ []) begun are all = further one [] are
+    deeper-reached true true (one ∷ two ∷ more) begun are all = further one (two ∷ more) are
+    deeper-reached false true (one ∷ two ∷ more) begun are all = further one (two ∷ more) are
+    deeper-reached true false [] begun are all = absurd (let few = begun refl in omega (arith, few))
+    deeper-reached false false [] begun are all = absurd (let few = begun refl in omega (arith, few))
+    deeper-reached true false (one ∷ []) begun are all = further one [] are
+    deeper-reached false false (one ∷ []) begun are all = further one [] are
+    deeper-reached true false (one ∷ two ∷ more) begun are all = further one (two ∷ more) are
+    deeper-reached false false (one ∷ two ∷ more) begun are all = further one (two ∷ more) are
 
-    behind-element : (reach : Reach) → IsBegun reach → IsReachedBy env store before way reach
-        → IsReachedBy env store (before ++ own) longer (deeper index reach)
-    behind-element reach begun reached = deeper-reached reach.is_all reach.indexes begun reached.indexes reached.all
+    behind-element : (keeps : Bool) (reach : Reach) → IsBegun reach → IsReachedBy env store before way reach
+        → IsReachedBy env store (before ++ own) longer (deeper keeps index reach)
+    behind-element keeps reach begun reached = deeper-reached keeps reach.is_all reach.indexes begun reached.indexes reached.all
 
 -- what tells of no variable's value is so of any store
 any-store : (env : Environment) (before after : Store) (selectors : List Selector) (way : List Step) (reach : Reach) → IsFormless reach
@@ -320,27 +320,31 @@ form-unless : (m : Moment) (form : Option Bound) (holds_call : Bool) (number : �
 form-unless m form true number known b is = absurd (none-some b is)
 form-unless m form false number known b is = known b is
 
-formless-deeper : (form : Option Bound) (range : Interval) (holds_call : Bool) (reach : Reach) → (holds_call ≡ true → IsFormless reach) → holds_call ≡ true
-    → IsFormless (deeper (record { form = cond holds_call None form; range = range }) reach)
-formless-deeper form range true reach formless is = by reach.indexes (formless refl)
+formless-deeper : (keeps : Bool) (form : Option Bound) (range : Interval) (holds_call : Bool) (reach : Reach) → (holds_call ≡ true → IsFormless reach)
+    → holds_call ≡ true → IsFormless (deeper keeps (record { form = cond holds_call None form; range = range }) reach)
+formless-deeper keeps form range true reach formless is = by (keeps && reach.is_all) reach.indexes (formless refl)
   where
-    by : (indexes : List Index) → AreFormless indexes → AreFormless (deeper_by (record { form = None; range = range }) indexes reach).indexes
-    by [] are = (refl, tt)
-    by (one ∷ []) are = (are.0, (refl, tt))
-    by (one ∷ two ∷ more) are = formless refl
-formless-deeper form range false reach formless is = absurd (false≢true is)
+    by : (both : Bool) (indexes : List Index) → AreFormless indexes
+        → AreFormless (deeper_by both (record { form = None; range = range }) indexes reach).indexes
+    by true [] are = (refl, tt)
+    by false [] are = (refl, tt)
+    by true (one ∷ []) are = (are.0, (refl, tt))
+    by false (one ∷ []) are = formless refl
+    by true (one ∷ two ∷ more) are = formless refl
+    by false (one ∷ two ∷ more) are = formless refl
+formless-deeper keeps form range false reach formless is = absurd (false≢true is)
 
-begun-deeper : (index : Index) (reach : Reach) → IsBegun reach → IsBegun (deeper index reach)
-begun-deeper index reach begun = by reach.is_all reach.indexes begun
+begun-deeper : (keeps : Bool) (index : Index) (reach : Reach) → IsBegun reach → IsBegun (deeper keeps index reach)
+begun-deeper keeps index reach begun = by (keeps && reach.is_all) reach.is_all reach.indexes begun
   where
-    by : (is_all : Bool) (indexes : List Index) → IsBegun (record { indexes = indexes; is_all = is_all })
-        → IsBegun (deeper_by index indexes (record { indexes = indexes; is_all = is_all }))
-    by true [] begun is = absurd (false≢true (sym is))
-    by true (one ∷ []) begun is = absurd (false≢true (sym is))
-    by true (one ∷ two ∷ more) begun is = omega arith
-    by false [] begun is = absurd (let few = begun refl in omega (arith, few))
-    by false (one ∷ []) begun is = absurd (let few = begun refl in omega (arith, few))
-    by false (one ∷ two ∷ more) begun is = omega arith
+    by : (both is_all : Bool) (indexes : List Index) → IsBegun (record { indexes = indexes; is_all = is_all })
+        → IsBegun (deeper_by both index indexes (record { indexes = indexes; is_all = is_all }))
+    by true is_all [] begun is = omega arith
+    by false is_all [] begun is = omega arith
+    by true is_all (one ∷ []) begun is = omega arith
+    by false is_all (one ∷ []) begun is = omega arith
+    by true is_all (one ∷ two ∷ more) begun is = omega arith
+    by false is_all (one ∷ two ∷ more) begun is = omega arith
 
 -- ---- where an access begins
 
@@ -349,12 +353,12 @@ module _ (env : Environment) (store : Store) where
   unknown-on : (number : ℤ) → HasMember integer number → IsIndexOn env store unknown_index number
   unknown-on number whole = record { in_range = whole; of_form = λ b is. absurd (none-some b is) }
 
-  deeper-formless : (reach : Reach) → IsFormless reach → IsFormless (deeper unknown_index reach)
+  deeper-formless : (reach : Reach) → IsFormless reach → IsFormless (deeper false unknown_index reach)
   deeper-formless reach formless = by reach.indexes formless
     where
-      by : (indexes : List Index) → AreFormless indexes → AreFormless (deeper_by unknown_index indexes reach).indexes
+      by : (indexes : List Index) → AreFormless indexes → AreFormless (deeper_by false unknown_index indexes reach).indexes
       by [] are = (refl, tt)
-      by (one ∷ []) are = (are.0, (refl, tt))
+      by (one ∷ []) are = formless
       by (one ∷ two ∷ more) are = formless
 
   -- what is reached, of which nothing is told of variables
@@ -384,11 +388,11 @@ module _ (env : Environment) (store : Store) where
       let one : List Selector = Element fits cells ∷ [] in
       let here : List Step = step.Element index ∷ [] in
       let on = unknown-on index own in
-      along before one rest way here more (behind_steps (map step_of rest) (deeper unknown_index reach))
-      (behind-reached (before ++ one) rest (way ++ here) more (deeper unknown_index reach) (record {
+      along before one rest way here more (behind_steps (map step_of rest) (deeper false unknown_index reach))
+      (behind-reached (before ++ one) rest (way ++ here) more (deeper false unknown_index reach) (record {
         matches = matches-then before one way here is.matches (low, high, tt);
-        reached = behind-element env store before way fits cells index unknown_index on is.matches reach is.begun is.reached;
-        begun = begun-deeper unknown_index reach is.begun;
+        reached = behind-element env store before way fits cells index unknown_index on is.matches false reach is.begun is.reached;
+        begun = begun-deeper false unknown_index reach is.begun;
         formless = deeper-formless reach is.formless;
       }) matches whole)
   behind-reached before (Field position offset ∷ rest) way (step.Field place ∷ more) reach is (same, matches) whole =
@@ -504,19 +508,23 @@ module _ (world : World) (block : ℕ) (env : Surroundings) where
   selected-sound : (root : ℕ) (selectors : List Selector) (evaluations : List Evaluation) (pieces : List Piece) → AllSound world block env evaluations pieces
       → length evaluations ≡ index_count selectors → tests_are_well selectors ≡ true
       → (store : Store) (before : List Selector) (reach : Reach) (place : Option Place) → LeadsBy root before reach place store → IsBegun reach
-      → (hold_call pieces ≡ true → IsFormless reach)
+      → (hold_call pieces ≡ true → IsFormless reach) → (walked : List Selector) → next_test walked ≡ next_test selectors
+      → behind_next walked ≡ behind_next selectors
       → SoundFrom world block visible store (LeadsBy root (before ++ selectors)) (selected selectors evaluations env place)
-      (indexes_walk selectors pieces reach)
-  selected-sound root [] [] [] all count tests store before reach place leads begun formless = λ context state s same unbroken walked here.
+      (indexes_walk walked pieces reach)
+  selected-sound root [] [] [] all count tests store before reach place leads begun formless walked test_is behind_is =
+      λ context state s same unbroken part here.
       let R = LeadsBy root (before ++ []) in
       let leads_on : R reach place s.store =
       subst (λ (list : List Selector). LeadsBy root list reach place s.store) (sym (append-nil before))
       (subst (λ (x : Store). LeadsBy root before reach place x) (sym same) leads) in
       good-give world (IsForetold world visible R context (walk.give reach context state) s.store) place s here.fine
       (record { tie = leads_on; stands = here.stands; kept = keeps-itself visible context.rounds s.store })
-  selected-sound root [] (evaluation ∷ evaluations) pieces all count tests store before reach place leads begun formless = absurd (omega (arith, count))
-  selected-sound root [] [] (piece ∷ pieces) all count tests store before reach place leads begun formless = absurd all
-  selected-sound root (Field position offset ∷ selectors) evaluations pieces all count tests store before reach place leads begun formless =
+  selected-sound root [] (evaluation ∷ evaluations) pieces all count tests store before reach place leads begun formless walked test_is behind_is =
+      absurd (omega (arith, count))
+  selected-sound root [] [] (piece ∷ pieces) all count tests store before reach place leads begun formless walked test_is behind_is = absurd all
+  selected-sound root (Field position offset ∷ selectors) evaluations pieces all count tests store before reach place leads begun formless walked
+      test_is behind_is =
       let own : List Selector = Field position offset ∷ [] in
       let inner = part place (step.Field position ∷ []) in
       let leads_on : LeadsBy root (before ++ own) reach inner store = record {
@@ -525,17 +533,15 @@ module _ (world : World) (block : ℕ) (env : Surroundings) where
         matches = matches-then before own leads.way (step.Field position ∷ []) leads.matches (refl, tt);
         reached = behind-field visible store before leads.way position offset reach leads.reached;
       } in
-      subst (λ (w : Walking Reach).
-      SoundFrom world block visible store (LeadsBy root (before ++ Field position offset ∷ selectors)) (selected selectors evaluations env inner) w)
-      (sym (field-same position offset selectors pieces reach))
-      (subst (λ (list : List Selector). SoundFrom world block visible store (LeadsBy root list) (selected selectors evaluations env inner)
-      (indexes_walk selectors pieces reach)) (append_assoc before own selectors)
-      (selected-sound root selectors evaluations pieces all count tests store (before ++ own) reach inner leads_on begun formless))
-  selected-sound root (Element fits cells ∷ selectors) [] pieces all count tests store before reach place leads begun formless =
+      subst (λ (list : List Selector). SoundFrom world block visible store (LeadsBy root list) (selected selectors evaluations env inner)
+      (indexes_walk walked pieces reach)) (append_assoc before own selectors)
+      (selected-sound root selectors evaluations pieces all count tests store (before ++ own) reach inner leads_on begun formless walked test_is behind_is)
+  selected-sound root (Element fits cells ∷ selectors) [] pieces all count tests store before reach place leads begun formless walked test_is behind_is =
       absurd (omega (arith, count))
-  selected-sound root (Element fits cells ∷ selectors) (evaluation ∷ evaluations) [] all count tests store before reach place leads begun formless = absurd all
+  selected-sound root (Element fits cells ∷ selectors) (evaluation ∷ evaluations) [] all count tests store before reach place leads begun formless walked
+      test_is behind_is = absurd all
   selected-sound root (Element fits cells ∷ selectors) (evaluation ∷ evaluations) (index ∷ pieces) all count tests store before reach place leads begun
-      formless =
+      formless walked test_is behind_is =
       let R = LeadsBy root (before ++ Element fits cells ∷ selectors) in
       let first = and_parts (is_well_formed_selector (outline_of world.tree) block (Element fits cells)) (tests_are_well selectors) tests in
       let site = and_parts (nat_lt fits.site (sites_in world)) (is_whole fits.range.first && is_whole fits.range.last) first.0 in
@@ -546,13 +552,19 @@ module _ (world : World) (block : ℕ) (env : Surroundings) where
         range = range;
       } in one) in
       let index_of = index_by (ordinal_in world) in
-      let reached_by = λ (range : Interval). deeper (index_of range) reach in
-      let walk_by = λ (range : Interval) (tree : Tree).
-      indexes_walk selectors pieces (deeper (index_by (is_ordinal_variable tree) range) reach) in
+      let reached_by = λ (keeps : Bool) (range : Interval). deeper keeps (index_of range) reach in
+      let walk_by = λ (keeps : Bool) (range : Interval) (tree : Tree).
+      indexes_walk selectors pieces (deeper keeps (index_by (is_ordinal_variable tree) range) reach) in
+      let kept = λ (context : Context). is_kept context.version walked in
+      let from = λ (test : Option RangeTest) (behind : List Selector). SoundFrom world block visible store R
+      (selected (Element fits cells ∷ selectors) (evaluation ∷ evaluations) env place) (walk.◌>>=◌ index.walk (λ known. walk.◌>>=◌ (index_test test known)
+      (λ range context. indexes_walk behind pieces (deeper (kept context) (index_by (is_ordinal_variable context.tree) range) reach) context))) in
       let one_more : List Selector = Element fits cells ∷ [] in
-      from-held world block visible store (IsHeld scalar.Ordinal) R (evaluation env)
+      subst (λ (test : Option RangeTest). from test (behind_next walked)) (sym test_is)
+      (subst (λ (behind : List Selector). from (Some fits) behind) (sym behind_is)
+      (from-held world block visible store (IsHeld scalar.Ordinal) R (evaluation env)
       (λ v. effect.◌>>=◌ (test v) (λ tested. selected selectors evaluations env (inner_of v))) index.walk
-      (λ known. walk.◌>>=◌ (index_test (Some fits) known) (λ range context. walk_by range context.tree context))
+      (λ known. walk.◌>>=◌ (index_test (Some fits) known) (λ range context. walk_by (kept context) range context.tree context))
       (sound-here world block visible store (IsHeld scalar.Ordinal) (evaluation env) index.walk all.0.sound)
       (λ known v s t is from inside numbers.
       let own = form_by (ordinal_in world) index in
@@ -561,14 +573,14 @@ module _ (world : World) (block : ℕ) (env : Surroundings) where
       later-reached visible store t.store before leads.way reach index.holds_call (λ without. all.0.leaves without s t v is ∙ from)
       (λ holds. formless (or_left index.holds_call (hold_call pieces) holds)) leads.reached in
       from-then world block visible t.store (LiesWithin v) R (test v) (λ tested. selected selectors evaluations env (inner_of v)) (index_test (Some fits) known)
-      (λ range context. walk_by range context.tree context)
+      (λ range context. walk_by (kept context) range context.tree context)
       (sound-here world block visible t.store (LiesWithin v) (test v) (index_test (Some fits) known)
       (tested-sound fits known v (ltb-true fits.site (sites_in world) site.0) inside.0 inside.1))
       (λ range tested s2 u passes same lies.
       let bounds = in-test fits.range v (subst (λ (one : Scalar). IsOf one v) inside.1 (known-of known v inside.0))
       (required-true (is_in fits.range v) fits.site s2 u tested passes) in
       let stays : u.store ≡ t.store = required-leaves (is_in fits.range v) fits.site s2 u tested passes ∙ same in
-      let leads_on : LeadsBy root (before ++ one_more) (reached_by range) (inner_of v) t.store = record {
+      let leads_on : (keeps : Bool) → LeadsBy root (before ++ one_more) (reached_by keeps range) (inner_of v) t.store = λ keeps. record {
         way = leads.way ++ step.Element (number_of v) ∷ [];
         place_is = behind root leads.way (step.Element (number_of v)) place leads.place_is;
         matches = matches-then before one_more leads.way (step.Element (number_of v) ∷ []) leads.matches (bounds.0, bounds.1, tt);
@@ -577,16 +589,18 @@ module _ (world : World) (block : ℕ) (env : Surroundings) where
               in_range = lies;
               of_form = form-unless (moment visible t.store) own (hold_call pieces) (number_of v)
                   (of-form (moment visible t.store) own v form);
-            }) leads.matches reach begun reached_now;
+            }) leads.matches keeps reach begun reached_now;
       } in
-      sound-by_tree world block visible u.store R (selected selectors evaluations env (inner_of v)) (walk_by range)
+      let by_tree = λ (keeps : Bool).
+      sound-by_tree world block visible u.store R (selected selectors evaluations env (inner_of v)) (walk_by keeps range)
       (subst (λ (list : List Selector). SoundFrom world block visible u.store (LeadsBy root list) (selected selectors evaluations env (inner_of v))
-      (indexes_walk selectors pieces (reached_by range))) (append_assoc before one_more selectors)
-      (selected-sound root selectors evaluations pieces all.1 (omega (arith, count)) first.1 u.store (before ++ one_more) (reached_by range) (inner_of v)
-      (subst (λ (x : Store). LeadsBy root (before ++ one_more) (reached_by range) (inner_of v) x) (sym stays) leads_on)
-      (begun-deeper (index_of range) reach begun)
-      (formless-deeper own range (hold_call pieces) reach
-      (λ holds. formless (or_right index.holds_call (hold_call pieces) holds)))))))
+      (indexes_walk selectors pieces (reached_by keeps range))) (append_assoc before one_more selectors)
+      (selected-sound root selectors evaluations pieces all.1 (omega (arith, count)) first.1 u.store (before ++ one_more) (reached_by keeps range) (inner_of v)
+      (subst (λ (x : Store). LeadsBy root (before ++ one_more) (reached_by keeps range) (inner_of v) x) (sym stays) (leads_on keeps))
+      (begun-deeper keeps (index_of range) reach begun)
+      (formless-deeper keeps own range (hold_call pieces) reach
+      (λ holds. formless (or_right index.holds_call (hold_call pieces) holds))) selectors refl refl)) in
+      λ context. by_tree (kept context) context))))
 
   -- what is reached where an access begins
   reached-begun : (store : Store) (origin : Origin) {place : Option Place} (begins : Begins world block visible origin place)
@@ -636,7 +650,7 @@ module _ (world : World) (block : ℕ) (env : Surroundings) where
         (selected selectors evaluations env place) (indexes_walk selectors pieces (reach_at origin))
         (selected-sound root selectors evaluations pieces all count tests t.store begins.all (reach_at origin) place
         (record { way = begins.way; place_is = begins.place_is; matches = begins.matches; reached = begun_at.reached }) begun_at.begun
-        (λ holds. begun_at.formless))))
+        (λ holds. begun_at.formless) selectors refl refl)))
 
   -- ---- uses
 

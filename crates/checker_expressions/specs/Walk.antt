@@ -1,7 +1,7 @@
 -- The walk of the checker over an expression, one equation a form: what is known of its value, the state after it, the
 -- sites that it leaves open, the rules of certificates that its calls break, and the state at each entry into an
 -- expression (ISO 7185:1990, 6.7, 6.8.3.10). It does not say that a run does what the walk says of it.
-use Rattle.std.specs.Prelude.{◌≡◌, ℕ, pos, Bool, not, ◌||◌, int_le, List, [], ◌∷◌, ◌++◌}
+use Rattle.std.specs.Prelude.{ℕ, pos, Bool, not, ◌||◌, int_le, List, [], ◌∷◌, ◌++◌}
 use Rattle.std.specs.Prelude.{Option, Some, None, if◌then◌else◌, map, ◌&&◌, true, false, slice_get}
 use Rattle.std.specs.List.{list_all, list_any}
 use Rattle.place.specs.declared.Place.{Place}
@@ -45,6 +45,8 @@ use Rattle.typed_tree.specs.declared.tree.Expr.TheOpen.Passed-F.{Value as Passed
 use Rattle.typed_tree.specs.declared.tree.Expr.TheFolds.{fold-Expr, fold-Passed, fold-Link}
 use Rattle.typed_tree.specs.Accesses.{Origin, origin_of, steps_of}
 use Rattle.typed_tree.specs.WellFormed.{of_one, whole_indexes}
+use Rattle.domain.specs.Versions.{has}
+use Rattle.domain.specs.declared.versions.Extension.TheVariants.{Blocks}
 use Rattle.domain.specs.declared.versions.Version.{Version}
 use Rattle.domain.specs.Interval.{Interval, is_included, has_number, common, sum, difference, negated, product, squared}
 use Rattle.domain.specs.Interval.{absolute, quotient, remainder, without_zero_end, at_least, both, either}
@@ -397,13 +399,25 @@ index_test (Some fits) known = do
   passed ← fitting fits known
   give (known_range passed)
 
--- what is reached with one index more, of which two are kept
-abbrev pub deeper_by : Index → List Index → Reach → Reach
-deeper_by index (one ∷ two ∷ more) reach = record reach { is_all = false }
-deeper_by index indexes reach = record reach { indexes = indexes ++ index ∷ [] }
+-- the next index that selectors take is that of an array itself, and not of a part of it
+abbrev pub begin_at_element : List Selector → Bool
+begin_at_element [] = false
+begin_at_element (Element fits cells ∷ selectors) = true
+begin_at_element (Field position offset ∷ selectors) = false
 
-abbrev pub deeper : Index → Reach → Reach
-deeper index reach = deeper_by index reach.indexes reach
+-- it is kept behind another: in a version with blocks an access keeps the second index of a matrix
+abbrev pub is_kept : Version → List Selector → Bool
+is_kept version selectors = has version Blocks && begin_at_element selectors
+
+-- what is reached with one index more: the first is kept, and one right behind it, if that is to be
+abbrev pub deeper_by : (keeps : Bool) → Index → List Index → Reach → Reach
+deeper_by keeps index [] reach = record reach { indexes = index ∷ [] }
+deeper_by true index (one ∷ []) reach = record reach { indexes = one ∷ index ∷ [] }
+deeper_by false index (one ∷ []) reach = record reach { is_all = false }
+deeper_by keeps index (one ∷ two ∷ more) reach = record reach { is_all = false }
+
+abbrev pub deeper : (keeps : Bool) → Index → Reach → Reach
+deeper keeps index reach = deeper_by (keeps && reach.is_all) index reach.indexes reach
 
 -- index expressions, each of which is tested at once: what is reached by them
 abbrev pub indexes_walk : List Selector → List Piece → Reach → Walking Reach
@@ -412,12 +426,13 @@ indexes_walk selectors (index ∷ indexes) reach = do
   known ← index.walk
   range ← index_test (next_test selectors) known
   λ context. indexes_walk (behind_next selectors) indexes
-      (deeper (record { form = form_before context index indexes; range = range }) reach) context
+      (deeper (is_kept context.version selectors) (record { form = form_before context index indexes; range = range })
+      reach) context
 
 -- what is reached behind steps to a record: the indexes of elements aren't known
 abbrev pub behind_steps : List PathStep → Reach → Reach
 behind_steps [] reach = reach
-behind_steps (path.Element ∷ steps) reach = behind_steps steps (deeper unknown_index reach)
+behind_steps (path.Element ∷ steps) reach = behind_steps steps (deeper false unknown_index reach)
 behind_steps (path.Field position ∷ steps) reach = behind_steps steps reach
 
 -- what is reached where an access begins: at a variable, or at a record of a with statement

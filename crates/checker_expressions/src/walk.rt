@@ -11,9 +11,10 @@ ghost use Rattle.checker_state.specs.View.{said_form, said_index, said_reach};
 ghost use Rattle.checker_expressions.specs.View.{Goes, entries_of_link};
 ghost use Rattle.checker_expressions.specs.Visits.{all_counted};
 ghost use Rattle.checker_expressions.specs.Walk.{access_walk, actuals_walk, behind_next, behind_steps, call_walk};
-ghost use Rattle.checker_expressions.specs.Walk.{deeper};
+ghost use Rattle.checker_expressions.specs.Walk.{begin_at_element, deeper};
 ghost use Rattle.checker_expressions.specs.Walk.{form_before_by, give};
-ghost use Rattle.checker_expressions.specs.Walk.{function_walk, in_turn, index_pieces, indexes_walk, link_walk};
+ghost use Rattle.checker_expressions.specs.Walk.{function_walk, in_turn, index_pieces, indexes_walk, is_kept};
+ghost use Rattle.checker_expressions.specs.Walk.{link_walk};
 ghost use Rattle.checker_expressions.specs.Walk.{members_walk, next_test, none_gathered, parameter_walk};
 ghost use Rattle.checker_expressions.specs.Walk.{passed_piece_of, piece_of, reach_at, related_walk};
 ghost use Rattle.checker_expressions.specs.Walk.{value_walk, variable_walk, whole_walk, width_walk, written_walk};
@@ -27,6 +28,7 @@ use checker_rows::Rows;
 use checker_state::{Bound, Index, Indexes, Known, Reach, bound_form};
 use domain::hull::Hull;
 use domain::interval::Interval;
+use domain::versions::{Extension, Version};
 use typed_tree::calls::{actuals_hold_call, hold_call};
 use typed_tree::tree::{
     Access, Base, Call, Designator, Expr, Link, Passed, PathStep, RangeTest, Scalar, Selector,
@@ -234,7 +236,8 @@ impl<'a> Flow<'a> {
             let known = self.expression(index, visits);
             let range = self.index(next_test(left), known);
             let form = form_before(self.state.table(), index, &indexes[i + 1..]);
-            reach = deeper(Index { form, range }, reach);
+            let keeps = is_kept(self.grounds.version, left);
+            reach = deeper(keeps, Index { form, range }, reach);
             left = behind_next(left);
         }
         reach
@@ -390,7 +393,7 @@ fn behind(steps: &[PathStep]) -> Reach
     };
     for step in steps {
         match step {
-            PathStep::Element => reach = deeper(unknown_index(), reach),
+            PathStep::Element => reach = deeper(false, unknown_index(), reach),
             PathStep::Field(_) => {}
         }
     }
@@ -407,9 +410,27 @@ fn unknown_index() -> Index
     }
 }
 
-/// What is reached with one index more, of which two are kept.
-fn deeper(index: Index, reach: Reach) -> Reach
-    ensures { said_reach result ≡ deeper (said_index index) (said_reach reach) }
+/// Whether an access keeps the next index that selectors take behind another: in a version with blocks the second one
+/// of a matrix.
+fn is_kept(version: Version, selectors: &[Selector]) -> bool
+    ensures { result ≡ is_kept version selectors.now }
+{
+    version.has(Extension::Blocks) && begin_at_element(selectors)
+}
+
+/// Whether that is the index of an array itself, and not of a part of it.
+fn begin_at_element(selectors: &[Selector]) -> bool
+    ensures { result ≡ begin_at_element selectors.now }
+{
+    match selectors.first() {
+        Some(Selector::Element { .. }) => true,
+        _ => false,
+    }
+}
+
+/// What is reached with one index more: the first is kept, and one right behind it, if that is to be.
+fn deeper(keeps: bool, index: Index, reach: Reach) -> Reach
+    ensures { said_reach result ≡ deeper keeps (said_index index) (said_reach reach) }
 {
     let Reach { indexes, is_all } = reach;
     match indexes {
@@ -417,10 +438,19 @@ fn deeper(index: Index, reach: Reach) -> Reach
             indexes: Indexes::One(index),
             is_all,
         },
-        Indexes::One(first) => Reach {
-            indexes: Indexes::Two(first, index),
-            is_all,
-        },
+        Indexes::One(first) => {
+            if keeps && is_all {
+                Reach {
+                    indexes: Indexes::Two(first, index),
+                    is_all,
+                }
+            } else {
+                Reach {
+                    indexes: Indexes::One(first),
+                    is_all: false,
+                }
+            }
+        }
         Indexes::Two(first, second) => Reach {
             indexes: Indexes::Two(first, second),
             is_all: false,

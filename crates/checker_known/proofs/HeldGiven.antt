@@ -1,6 +1,6 @@
 -- What is held is given where the variables are defined on which it rests.
 use Rattle.std.proofs.Common.{arith, ◌≡◌, ◌∙◌, ap, refl, ℕ, ℤ, pos, ◌+ℤ◌, int_le, Bool, true, false, ◌&&◌, List, [], ◌∷◌, Option, Some}
-use Rattle.std.proofs.Common.{None, drop, nat_eq}
+use Rattle.std.proofs.Common.{None, drop, map, nat_eq}
 use Rattle.std.specs.List.{Contains, list_any}
 use Rattle.std.proofs.lemmas.Bool.{and_from, eq-eqb, or_left, or_right}
 use Rattle.std.proofs.lemmas.Int.{ints}
@@ -9,8 +9,8 @@ use Rattle.types.specs.declared.form.OrdinalRange.{OrdinalRange}
 use Rattle.checker_state.specs.Bounds.{Bound, is_at_most, is_same_variable, plus}
 use Rattle.checker_known.specs.Told.{has_its_values}
 use Rattle.checker_state.specs.State.{Facts, Held, Live, Ordered, Span, Stretch, Stretched, Table, bound_range, covers, gives, has_number, has_span, have_spans}
-use Rattle.checker_state.specs.State.{have_values}
-use Rattle.checker_state.specs.State.{is_below, is_empty, is_whole, le, says_at_most}
+use Rattle.checker_state.specs.State.{have_values, is_covered}
+use Rattle.checker_state.specs.State.{is_below, is_empty, is_whole, le, says_at_most, wanted_of}
 
 less-itself : (n : ℤ) → int_le n n ≡ true
 less-itself n = grind (arith, ints)
@@ -26,16 +26,17 @@ module _ (known : Facts) where
       or_left (is_at_most bound bound) _
       (and_from (is_same_variable bound.root bound.root) (int_le bound.number bound.number) (variable-itself bound.root) (less-itself bound.number))
 
-  spans-themselves : (indexes : List OrdinalRange) (spans : List Span) → have_spans known indexes spans spans ≡ true
+  spans-themselves : (indexes : List OrdinalRange) (spans : List Span) → have_spans known indexes (map (wanted_of known) spans) spans ≡ true
   spans-themselves indexes [] = refl
   spans-themselves indexes (span ∷ spans) =
-      and_from (has_span known span span) (have_spans known (drop 1 indexes) spans spans)
+      and_from (has_span (wanted_of known span) span) (have_spans known (drop 1 indexes) (map (wanted_of known) spans) spans)
       (and_from (le known span.first span.first) (le known span.last span.last) (le-itself span.first) (le-itself span.last))
       (spans-themselves (drop 1 indexes) spans)
 
-  covers-itself : (indexes : List OrdinalRange) (stretch : Stretch) → covers known indexes stretch (Stretched stretch) ≡ true
+  covers-itself : (indexes : List OrdinalRange) (stretch : Stretch)
+      → covers known indexes stretch.row (map (wanted_of known) stretch.spans) (Stretched stretch) ≡ true
   covers-itself indexes stretch =
-      and_from (nat_eq stretch.row stretch.row) (have_spans known indexes stretch.spans stretch.spans)
+      and_from (nat_eq stretch.row stretch.row) (have_spans known indexes (map (wanted_of known) stretch.spans) stretch.spans)
       (eq-eqb stretch.row stretch.row refl) (spans-themselves indexes stretch.spans)
 
   any-held : (test : Held → Bool) (one : Held) → Contains known.held one → test one ≡ true → list_any test known.held ≡ true
@@ -56,7 +57,9 @@ held-given table known (Stretched stretch) has =
     and-true (have_values table (Live known) stretch.spans) _
     (or_right (list_any (is_empty known) stretch.spans) _
     (or_right (is_whole table known stretch.row) _
-    (any-held known (covers known (table.indexes stretch.row) stretch) (Stretched stretch) has (covers-itself known (table.indexes stretch.row) stretch))))
+    (or_left (is_covered known (table.indexes stretch.row) stretch.row (map (wanted_of known) stretch.spans)) _
+    (any-held known (covers known (table.indexes stretch.row) stretch.row (map (wanted_of known) stretch.spans)) (Stretched stretch) has
+    (covers-itself known (table.indexes stretch.row) stretch)))))
 held-given table known (Ordered root other number) has =
     let a = plus root (pos 0) in
     let b = plus other number in

@@ -23,7 +23,8 @@ use Rattle.checker_known.specs.declared.order.Group.{Group}
 use Rattle.checker_known.specs.declared.order.Group.TheVariants as group
 use Rattle.checker_state.specs.Bounds.{Bound, bound_order, is_variable, variable_order}
 use Rattle.types.specs.declared.form.OrdinalRange.{OrdinalRange}
-use Rattle.checker_state.specs.State.{Facts, Held, Ordered, Span, Stretch, Stretched, covers, have_spans, held_order, says_at_most, span_order}
+use Rattle.checker_state.specs.State.{Facts, Held, Ordered, Span, Stretch, Stretched, Wanted, begin_in_time, begins, covers, go_on, have_spans}
+use Rattle.checker_state.specs.State.{held_order, joins, says_at_most, span_order}
 use Rattle.checker_known.specs.Halves.{Falls, IsEdge}
 use Rattle.checker_known.specs.Order.{AreBetween, AreOf, comes_before, disorder_of, out_of_order, stands, wrong, wrong_around, wrong_at}
 use Rattle.checker_known.proofs.Pairs.{around-within, at-few, at-within, none-first, told-few, told-insert, told-nothing, told-past, told-remove}
@@ -426,16 +427,32 @@ says-no-second a b none (Stretched stretch) = refl
 says-no-second a b none (Ordered x y number) =
     ap (λ (q : Option ℕ). is_variable x a.root && (is_variable y q && int_le (number +ℤ a.number) b.number)) none ∙ and-false (is_variable x a.root)
 
-pub covers-outside : (known : Facts) (indexes : List OrdinalRange) (wanted : Stretch) (one : Held) → Outside (group.Row wanted.row) one
-    → covers known indexes wanted one ≡ false
-covers-outside known indexes wanted (Ordered x y number) outside = refl
-covers-outside known indexes wanted (Stretched stretch) outside =
+-- what is of another row is none that is wanted of a row
+row-outside : (row other : ℕ) (rest : Bool) → (nat_cmp other row ≡ Equal → ⊥) → (nat_eq row other && rest) ≡ false
+row-outside row other rest outside =
     ⊎_elim
-    (λ (same : nat_eq wanted.row stretch.row ≡ true).
-    absurd (outside (sym (nat_cmp_is stretch.row wanted.row Equal (sym (eqb-true wanted.row stretch.row same))))))
-    (λ (other : nat_eq wanted.row stretch.row ≡ false).
-    ap (λ (b : Bool). b && have_spans known indexes wanted.spans stretch.spans) other)
-    (cases_Bool (nat_eq wanted.row stretch.row))
+    (λ (same : nat_eq row other ≡ true). absurd (outside (sym (nat_cmp_is other row Equal (sym (eqb-true row other same))))))
+    (λ (differ : nat_eq row other ≡ false). ap (λ (b : Bool). b && rest) differ) (cases_Bool (nat_eq row other))
+
+module _ (known : Facts) (indexes : List OrdinalRange) (row : ℕ) (wanted : List Wanted) where
+  pub covers-outside : (one : Held) → Outside (group.Row row) one → covers known indexes row wanted one ≡ false
+  covers-outside (Ordered x y number) outside = refl
+  covers-outside (Stretched stretch) outside = row-outside row stretch.row (have_spans known indexes wanted stretch.spans) outside
+
+  begins-outside : (one : Held) → Outside (group.Row row) one → begins known indexes row wanted one ≡ false
+  begins-outside (Ordered x y number) outside = refl
+  begins-outside (Stretched stretch) outside = row-outside row stretch.row (begin_in_time known indexes wanted stretch.spans) outside
+
+  pub joined-outside : (one : Held) → Outside (group.Row row) one
+      → (begins known indexes row wanted one && list_any (joins known indexes row wanted one) known.held) ≡ false
+  joined-outside one outside =
+      ap (λ (b : Bool). b && list_any (joins known indexes row wanted one) known.held) (begins-outside one outside)
+
+  pub joins-outside : (one other : Held) → Outside (group.Row row) other → joins known indexes row wanted one other ≡ false
+  joins-outside (Ordered x y number) other outside = refl
+  joins-outside (Stretched one) (Ordered x y number) outside = refl
+  joins-outside (Stretched one) (Stretched other) outside =
+      row-outside row other.row (go_on known indexes wanted one.spans other.spans) outside
 
 pub none-at-all : (test : Held → Bool) (held : List Held) → ((one : Held) → test one ≡ false) → false ≡ list_any test held
 none-at-all test held fails = none-passes test held (λ i one inside. fails (get_or held i one))

@@ -1,4 +1,4 @@
--- What becomes longer where a first index of a row becomes defined, one after another.
+-- What becomes longer where first indexes of a row become defined, one after another.
 use Rattle.std.proofs.Common.{arith, ◌≡◌, ◌∙◌, sym, ap, ap₂, refl, subst, ⊎_elim, ℕ, zero, suc, ◌+◌, ◌<◌, ◌≤◌, List, [], ◌∷◌, ◌++◌, get_or}
 use Rattle.std.proofs.Common.{append-nil, length, take}
 use Rattle.std.proofs.Common.{Option, None, Some}
@@ -30,15 +30,15 @@ places-push change place (first ∷ held) one =
     (let same : suc place + length held ≡ place + suc (length held) = omega arith in same))
     ∙ if-append (change first) place (places_from change (suc place) held) (place_if (change one) (place + suc (length held)) [])
 
-module _ {known : Facts} {row : ℕ} {index : Bound} {places : List ℕ} {more : List KeptHeld} (held : List KeptHeld) where
+module _ {known : Facts} {row : ℕ} {indexes : List Bound} {places : List ℕ} {more : List KeptHeld} (held : List KeptHeld) where
   -- one more is asked
   pub longer-more : {new_places : List ℕ} {new_more : List KeptHeld} (i : ℕ) (one : KeptHeld) (found : Option Held) → i < length held
-      → one ≡ get_or held i one → found ≡ longer known row index (said_held one)
-      → AreLonger known row index places more (said_all (take i held)) → new_places ≡ places ++ place_if found i []
+      → one ≡ get_or held i one → found ≡ longer known row indexes (said_held one)
+      → AreLonger known row indexes places more (said_all (take i held)) → new_places ≡ places ++ place_if found i []
       → said_all new_more ≡ said_all more ++ cons_option found []
-      → AreLonger known row index new_places new_more (said_all (take (i + 1) held))
+      → AreLonger known row indexes new_places new_more (said_all (take (i + 1) held))
   longer-more {new_places = new_places} {new_more = new_more} i one found inside is found_is so_far places_is more_is =
-      let change = longer known row index in
+      let change = longer known row indexes in
       let said : said_all (take (i + 1) held) ≡ said_all (take i held) ++ said_held one ∷ [] =
       ap said_all (take_more held i one inside) ∙ map-append said_held (take i held) (get_or held i one ∷ [])
       ∙ ap (λ (last : KeptHeld). said_all (take i held) ++ said_held last ∷ []) (sym is) in
@@ -56,26 +56,27 @@ module _ {known : Facts} {row : ℕ} {index : Bound} {places : List ℕ} {more :
 
   -- those that stay as they are need not be asked
   pub longer-skip : (from to : ℕ) → from ≤ to → to ≤ length held
-      → ((i : ℕ) (none : KeptHeld) → from ≤ i → i < to → longer known row index (said_held (get_or held i none)) ≡ None)
-      → AreLonger known row index places more (said_all (take from held)) → AreLonger known row index places more (said_all (take to held))
+      → ((i : ℕ) (none : KeptHeld) → from ≤ i → i < to → longer known row indexes (said_held (get_or held i none)) ≡ None)
+      → AreLonger known row indexes places more (said_all (take from held)) → AreLonger known row indexes places more (said_all (take to held))
   longer-skip from zero upto within stay so_far =
-      subst (λ (n : ℕ). AreLonger known row index places more (said_all (take n held))) (let same : from ≡ 0 = omega (arith, upto) in same) so_far
+      subst (λ (n : ℕ). AreLonger known row indexes places more (said_all (take n held))) (let same : from ≡ 0 = omega (arith, upto) in same) so_far
   longer-skip from (suc to) upto within stay so_far =
-      ⊎_elim (λ (same : from ≡ suc to). subst (λ (n : ℕ). AreLonger known row index places more (said_all (take n held))) same so_far)
+      ⊎_elim (λ (same : from ≡ suc to). subst (λ (n : ℕ). AreLonger known row indexes places more (said_all (take n held))) same so_far)
       (λ (differ : from ≡ suc to → ⊥).
       let one = get_or held to no_held in
-      subst (λ (n : ℕ). AreLonger known row index places more (said_all (take n held))) (let same : to + 1 ≡ suc to = omega arith in same)
+      subst (λ (n : ℕ). AreLonger known row indexes places more (said_all (take n held))) (let same : to + 1 ≡ suc to = omega arith in same)
       (longer-more to one None (omega (arith, within)) (get_or_default held to no_held one (omega (arith, within)))
       (sym (stay to no_held (omega (arith, upto, differ)) (omega arith)))
       (longer-skip from to (omega (arith, upto, differ)) (omega (arith, within)) (λ i none past inside. stay i none past (omega (arith, inside))) so_far)
       (sym (append-nil places)) (sym (append-nil (said_all more)))))
       (cases_eq from (suc to))
 
-module _ {known : Facts} {row : ℕ} {index : Bound} {first end : ℕ} (held : List KeptHeld) (near : AreNear known row index (said_all held) first end) where
+module _ {known : Facts} {row : ℕ} {indexes : List Bound} {first end : ℕ} (held : List KeptHeld)
+    (near : AreNear known row indexes (said_all held) first end) where
   -- what is said of one that stands there
   said-at : (i : ℕ) (none : KeptHeld)
-      → longer known row index (get_or (said_all held) i (said_held none)) ≡ longer known row index (said_held (get_or held i none))
-  said-at i none = ap (longer known row index) (get_or-map said_held held i none)
+      → longer known row indexes (get_or (said_all held) i (said_held none)) ≡ longer known row indexes (said_held (get_or held i none))
+  said-at i none = ap (longer known row indexes) (get_or-map said_held held i none)
 
   pub begins-inside : first ≤ length held
   begins-inside = omega (arith, near.begins, length-map held said_held)
@@ -84,16 +85,16 @@ module _ {known : Facts} {row : ℕ} {index : Bound} {first end : ℕ} (held : L
   ends-inside = omega (arith, near.ends, length-map held said_held)
 
   -- from the first that may become longer
-  pub longer-begin : (places : List ℕ) (more : List KeptHeld) → places ≡ [] → more ≡ [] → AreLonger known row index places more (said_all (take first held))
+  pub longer-begin : (places : List ℕ) (more : List KeptHeld) → places ≡ [] → more ≡ [] → AreLonger known row indexes places more (said_all (take first held))
   longer-begin places more no_places no_more =
       longer-skip held 0 first (omega arith) begins-inside (λ i none past below. sym (said-at i none) ∙ near.before i (said_held none) below)
       (record { places_are = no_places; more_are = ap said_all no_more })
 
   -- to the last one
   pub longer-end : (places : List ℕ) (more : List KeptHeld) (i : ℕ) → end ≤ i → i ≤ length held
-      → AreLonger known row index places more (said_all (take i held)) → AreLonger known row index places more (said_all held)
+      → AreLonger known row indexes places more (said_all (take i held)) → AreLonger known row indexes places more (said_all held)
   longer-end places more i past inside so_far =
-      subst (λ (all : List KeptHeld). AreLonger known row index places more (said_all all)) (take_all (length held) held (omega arith))
+      subst (λ (all : List KeptHeld). AreLonger known row indexes places more (said_all all)) (take_all (length held) held (omega arith))
       (longer-skip held i (length held) inside (omega arith)
       (λ j none behind below.
       sym (said-at j none) ∙ near.behind j (said_held none) (omega (arith, past, behind)) (omega (arith, below, length-map held said_held)))

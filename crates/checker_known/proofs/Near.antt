@@ -15,7 +15,7 @@ use Rattle.std.proofs.lemmas.Map.Keys.{Less-from_sorted}
 use Rattle.checker_state.specs.Bounds.{Bound, constant}
 use Rattle.checker_state.specs.State.{Facts, Held, Ordered, Span, Stretched, bound_range, held_order, is_below, is_next, le, lies_below, says_at_most}
 use Rattle.checker_state.specs.State.{Live, span_order}
-use Rattle.checker_state.specs.Stores.{longer, longer_by, longer_of}
+use Rattle.checker_state.specs.Stores.{is_at, longer, longer_by, longer_of, longer_span}
 use Rattle.checker_known.specs.declared.order.Group.TheVariants as group
 use Rattle.checker_known.specs.declared.halves.Test.TheVariants as test
 use Rattle.checker_known.specs.Halves.{Falls, IsEdge, first_of, last_of, passes, spans_of}
@@ -108,25 +108,50 @@ module _ (known : Facts) where
       let down = le-numbers y (x +ℤ pos 1) parts.1 in
       differ (grind (arith, ints)))
 
-  -- a stretch of numbers that a number isn't beside stays as it is
-  numbers-stay : (row : ℕ) (c f l : ℤ) (rest : List Span) → (c ≡ l +ℤ pos 1 → ⊥) → (f ≡ c +ℤ pos 1 → ⊥)
-      → longer_by known row (constant c) (between f l ∷ rest) ≡ None
-  numbers-stay row c f l [] behind before =
-      ap₂ (λ (first rest : Bool).
-      longer_of row (cond first (Some (record (between f l) { last = constant c })) (cond rest (Some (record (between f l) { first = constant c })) None)))
-      (not-next l c behind) (not-next c f before)
-  numbers-stay row c f l (span ∷ rest) behind before = refl
+  -- a span of numbers isn't just a number, if it begins or ends at another
+  not-at : (c f l : ℤ) → (f ≡ c → l ≡ c → ⊥) → is_at known (constant c) (between f l) ≡ false
+  not-at c f l differ =
+      false_from_ne_true (is_at known (constant c) (between f l)) (λ is.
+      let first = le known (constant f) (constant c) in
+      let first_too = le known (constant c) (constant f) in
+      let last = le known (constant l) (constant c) in
+      let last_too = le known (constant c) (constant l) in
+      let parts = and_parts (first && first_too) (last && last_too) is in
+      let one = and_parts first first_too parts.0 in
+      let two = and_parts last last_too parts.1 in
+      let a = le-numbers f c one.0 in
+      let b = le-numbers c f one.1 in
+      let d = le-numbers l c two.0 in
+      let e = le-numbers c l two.1 in
+      differ (grind (arith, ints)) (grind (arith, ints)))
 
-  far-stays : (row : ℕ) (c : ℤ) (one : Held) → Numbers (spans_of one) → (c ≡ last_of (spans_of one) +ℤ pos 1 → ⊥)
-      → (first_of (spans_of one) ≡ c +ℤ pos 1 → ⊥) → longer known row (constant c) one ≡ None
-  far-stays row c (Ordered root other number) numbers behind before = refl
-  far-stays row c (Stretched s) numbers behind before =
+  -- a stretch of numbers that a number isn't beside, and that isn't just this number, stays as it is
+  numbers-stay : (row : ℕ) (c f l : ℤ) (more : List Bound) (rest : List Span) → (c ≡ l +ℤ pos 1 → ⊥) → (f ≡ c +ℤ pos 1 → ⊥) → (f ≡ c → l ≡ c → ⊥)
+      → longer_by known row (constant c ∷ more) (between f l ∷ rest) ≡ None
+  numbers-stay row c f l [] [] behind before at =
+      ap₂ (λ (first rest : Bool).
+      longer_of row []
+      (cond first (Some (record (between f l) { last = constant c })) (cond rest (Some (record (between f l) { first = constant c })) None)))
+      (not-next l c behind) (not-next c f before)
+  numbers-stay row c f l [] (span ∷ rest) behind before at = refl
+  numbers-stay row c f l (two ∷ []) [] behind before at = refl
+  numbers-stay row c f l (two ∷ []) (span ∷ []) behind before at =
+      ap (λ (b : Bool). cond b (longer_of row (constant c ∷ []) (longer_span known two span)) None) (not-at c f l at)
+  numbers-stay row c f l (two ∷ []) (span ∷ next ∷ rest) behind before at = refl
+  numbers-stay row c f l (two ∷ third ∷ more) rest behind before at = refl
+
+  far-stays : (row : ℕ) (c : ℤ) (more : List Bound) (one : Held) → Numbers (spans_of one) → (c ≡ last_of (spans_of one) +ℤ pos 1 → ⊥)
+      → (first_of (spans_of one) ≡ c +ℤ pos 1 → ⊥) → (first_of (spans_of one) ≡ c → last_of (spans_of one) ≡ c → ⊥)
+      → longer known row (constant c ∷ more) one ≡ None
+  far-stays row c more (Ordered root other number) numbers behind before at = refl
+  far-stays row c more (Stretched s) numbers behind before at =
       let n = numbers in
       let first : first_of s.spans ≡ n.first = ap first_of n.spans_are in
       let last : last_of s.spans ≡ n.last = ap last_of n.spans_are in
       ap (λ (some : Option Held). cond (nat_eq s.row row) some None)
-      (ap (longer_by known row (constant c)) n.spans_are
-      ∙ numbers-stay row c n.first n.last n.rest (λ is. behind (is ∙ ap (λ (l : ℤ). l +ℤ pos 1) (sym last))) (λ is. before (first ∙ is)))
+      (ap (longer_by known row (constant c ∷ more)) n.spans_are
+      ∙ numbers-stay row c n.first n.last more n.rest (λ is. behind (is ∙ ap (λ (l : ℤ). l +ℤ pos 1) (sym last))) (λ is. before (first ∙ is))
+      (λ one two. at (first ∙ one) (last ∙ two)))
       ∙ both-none (nat_eq s.row row) None
     where
       both-none : (b : Bool) (nothing : Option Held) → cond b nothing nothing ≡ nothing
@@ -134,28 +159,28 @@ module _ (known : Facts) where
       both-none false nothing = refl
 
   -- what isn't of a row stays too
-  outside-stays : (row : ℕ) (index : Bound) (one : Held) → (stands (group.Row row) one ≡ Equal → ⊥) → longer known row index one ≡ None
-  outside-stays row index (Ordered root other number) outside = refl
-  outside-stays row index (Stretched s) outside =
+  outside-stays : (row : ℕ) (indexes : List Bound) (one : Held) → (stands (group.Row row) one ≡ Equal → ⊥) → longer known row indexes one ≡ None
+  outside-stays row indexes (Ordered root other number) outside = refl
+  outside-stays row indexes (Stretched s) outside =
       ⊎_elim (λ (same : nat_eq s.row row ≡ true). absurd (outside (sym (nat_cmp_is s.row row Equal (eqb-true s.row row same)))))
-      (λ (differ : nat_eq s.row row ≡ false). ap (λ (b : Bool). cond b (longer_by known row index s.spans) None) differ)
+      (λ (differ : nat_eq s.row row ≡ false). ap (λ (b : Bool). cond b (longer_by known row indexes s.spans) None) differ)
       (cases_Bool (nat_eq s.row row))
 
   -- ---- what stands in a row
 
   module _ (row : ℕ) (held : List Held) (first end : ℕ) (row_is : AreBetween (group.Row row) held first end) where
-    before-row : (index : Bound) (i : ℕ) (none : Held) → i < first → longer known row index (get_or held i none) ≡ None
-    before-row index i none below =
-        outside-stays row index (get_or held i none) (λ same.
+    before-row : (indexes : List Bound) (i : ℕ) (none : Held) → i < first → longer known row indexes (get_or held i none) ≡ None
+    before-row indexes i none below =
+        outside-stays row indexes (get_or held i none) (λ same.
         let less = row_is.before i none below (omega (arith, below, row_is.begins)) in cc)
 
-    behind-row : (index : Bound) (i : ℕ) (none : Held) → end ≤ i → i < length held → longer known row index (get_or held i none) ≡ None
-    behind-row index i none past within =
-        outside-stays row index (get_or held i none) (λ same.
+    behind-row : (indexes : List Bound) (i : ℕ) (none : Held) → end ≤ i → i < length held → longer known row indexes (get_or held i none) ≡ None
+    behind-row indexes i none past within =
+        outside-stays row indexes (get_or held i none) (λ same.
         let more = row_is.behind i none past within in cc)
 
-    pub near-row : (index : Bound) → AreNear known row index held first end
-    near-row index = record { begins = row_is.begins; ends = row_is.ends; before = before-row index; behind = behind-row index }
+    pub near-row : (indexes : List Bound) → AreNear known row indexes held first end
+    near-row indexes = record { begins = row_is.begins; ends = row_is.ends; before = before-row indexes; behind = behind-row indexes }
 
 -- two of a row go on, if they are no knot of it
 loose : (row : ℕ) (a b : Held) → stands (group.Row row) a ≡ Equal → stands (group.Row row) b ≡ Equal → counts row (knot a b) ≡ 0
@@ -255,20 +280,20 @@ module _ (row : ℕ) (held : List Held) (first end : ℕ) (within : end ≤ leng
   numbers-order : (spans : List Span) → Numbers spans → int_le (first_of spans) (last_of spans) ≡ true
   numbers-order spans n = ap (λ (s : List Span). int_le (first_of s) (last_of s)) n.spans_are ∙ n.in_order
 
-  pub near-number : (known : Facts) (c m n : ℤ) (from to : ℕ) → AreBetween (group.Row row) held first end → m ≡ c -ℤ pos 1 → n ≡ c +ℤ pos 2
+  pub near-number : (known : Facts) (c m n : ℤ) (rest : List Bound) (from to : ℕ) → AreBetween (group.Row row) held first end → m ≡ c -ℤ pos 1 → n ≡ c +ℤ pos 2
       → IsEdge (passes (test.EndsBelow m)) held first end from → IsEdge (passes (test.BeginsBelow n)) held first end to
-      → AreNear known row (constant c) held from to
-  near-number known c m n from to row_is m_is n_is ends begins = record {
+      → AreNear known row (constant c ∷ rest) held from to
+  near-number known c m n rest from to row_is m_is n_is ends begins = record {
     begins = omega (arith, ends.ends, within);
     ends = omega (arith, begins.ends, within);
     before = λ i none below.
-        ⊎_elim (λ (out : i < first). before-row known row held first end row_is (constant c) i none out)
+        ⊎_elim (λ (out : i < first). before-row known row held first end row_is (constant c ∷ rest) i none out)
         (λ (inside : first ≤ i).
         let one = get_or held i none in
         let numbers = numbers-at i none inside (omega (arith, below, ends.ends)) in
         let order = numbers-order (spans_of one) numbers in
         let ends_below = ends.before i none inside below in
-        far-stays known row c one numbers (λ is. grind (arith, ints)) (λ is. grind (arith, ints)))
+        far-stays known row c rest one numbers (λ is. grind (arith, ints)) (λ is. grind (arith, ints)) (λ first_is last_is. grind (arith, ints)))
         (cases_lt i first);
     behind = λ i none past there.
         ⊎_elim (λ (inside : i < end).
@@ -276,8 +301,8 @@ module _ (row : ℕ) (held : List Held) (first end : ℕ) (within : end ≤ leng
         let numbers = numbers-at i none (omega (arith, past, begins.begins)) inside in
         let order = numbers-order (spans_of one) numbers in
         let begins_behind = begins.behind i none past inside in
-        far-stays known row c one numbers (λ is. grind (arith, ints)) (λ is. grind (arith, ints)))
-        (λ (out : end ≤ i). behind-row known row held first end row_is (constant c) i none out there)
+        far-stays known row c rest one numbers (λ is. grind (arith, ints)) (λ is. grind (arith, ints)) (λ first_is last_is. grind (arith, ints)))
+        (λ (out : end ≤ i). behind-row known row held first end row_is (constant c ∷ rest) i none out there)
         (cases_lt i end);
   }
 

@@ -1,11 +1,10 @@
 -- What is held of the indexes of a row, by the first two of their values.
 use Rattle.std.proofs.Common.{◌≡◌, refl, sym, ap, ℕ, Bool, true, false, ◌&&◌, List, [], ◌∷◌, Some, None, drop}
 use Rattle.std.proofs.lemmas.Option.{none-some, same_Some}
-use Rattle.std.specs.List.{list_any}
 use Rattle.std.specs.Prelude.{slice_get}
 use Rattle.types.specs.declared.form.OrdinalRange.{OrdinalRange}
 use Rattle.checker_rows.specs.Leaves.{index_before}
-use Rattle.checker_state.specs.State.{Facts, Span, all_indexes, all_of, covers, has_span, have_spans, is_spanned}
+use Rattle.checker_state.specs.State.{Facts, Span, all_indexes, has_span, have_spans, is_covered, is_spanned, wanted_of}
 
 and-own : (b : Bool) → b ≡ (b && true)
 and-own true = refl
@@ -13,8 +12,8 @@ and-own false = refl
 
 module _ (known : Facts) where
   -- all of an index, by the span of all its values
-  pub all-has : (range : OrdinalRange) (held : Span) → has_span known (all_indexes range) held ≡ have_spans known (range ∷ []) [] (held ∷ [])
-  all-has range held = and-own (has_span known (all_indexes range) held)
+  pub all-has : (range : OrdinalRange) (held : Span) → has_span (wanted_of known (all_indexes range)) held ≡ have_spans known (range ∷ []) [] (held ∷ [])
+  all-has range held = and-own (has_span (wanted_of known (all_indexes range)) held)
 
   -- all of the second index
   pub inner_has : (indexes : List OrdinalRange) (held : Span)
@@ -29,7 +28,7 @@ module _ (known : Facts) where
   spanned_none row (range ∷ indexes) is = absurd (none-some range (sym is))
 
   pub spanned_some : (row : ℕ) (indexes : List OrdinalRange) (range : OrdinalRange) → slice_get indexes 0 ≡ Some range
-      → is_spanned known row indexes ≡ list_any (covers known indexes (all_of row range)) known.held
+      → is_spanned known row indexes ≡ is_covered known indexes row (wanted_of known (all_indexes range) ∷ [])
   spanned_some row [] range is = absurd (none-some range is)
   spanned_some row (first ∷ indexes) range is =
-      ap (λ (own : OrdinalRange). list_any (covers known (first ∷ indexes) (all_of row own)) known.held) (same_Some first range is)
+      ap (λ (own : OrdinalRange). is_covered known (first ∷ indexes) row (wanted_of known (all_indexes own) ∷ [])) (same_Some first range is)

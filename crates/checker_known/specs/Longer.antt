@@ -1,4 +1,4 @@
--- What becomes longer of what is held where a first index of a row becomes defined, and where that stands. It does not
+-- What becomes longer of what is held where first indexes of a row become defined, and where that stands. It does not
 -- say what is held from there on.
 use Rattle.std.specs.Prelude.{◌≡◌, ℕ, suc, ◌<◌, ◌≤◌, List, [], ◌∷◌, Option, Some, None, length, map, slice_index_or}
 use Rattle.std.specs.List.{filter_map, remove}
@@ -9,12 +9,12 @@ use Rattle.checker_state.specs.Stores.{longer}
 use Rattle.checker_state.specs.View.{said_held}
 
 -- only what stands between two places may
-pub record AreNear (known : Facts) (row : ℕ) (index : Bound) (held : List Held) (first end : ℕ) : Type 0 where
+pub record AreNear (known : Facts) (row : ℕ) (indexes : List Bound) (held : List Held) (first end : ℕ) : Type 0 where
   pub begins : first ≤ length held
   pub ends : end ≤ length held
-  pub before : (i : ℕ) (none : Held) → i < first → longer known row index (slice_index_or held i none) ≡ None
+  pub before : (i : ℕ) (none : Held) → i < first → longer known row indexes (slice_index_or held i none) ≡ None
   pub behind : (i : ℕ) (none : Held) → end ≤ i → i < length held
-      → longer known row index (slice_index_or held i none) ≡ None
+      → longer known row indexes (slice_index_or held i none) ≡ None
 
 -- the places, counted from a number, of those of which something becomes
 abbrev pub place_if : Option Held → ℕ → List ℕ → List ℕ
@@ -31,7 +31,7 @@ without [] held = held
 without (place ∷ places) held = remove (without places held) place
 
 -- where those stand that become longer, and what becomes of them
-pub record AreLonger (known : Facts) (row : ℕ) (index : Bound) (places : List ℕ) (more : List KeptHeld)
+pub record AreLonger (known : Facts) (row : ℕ) (indexes : List Bound) (places : List ℕ) (more : List KeptHeld)
     (held : List Held) : Type 0 where
-  pub places_are : places ≡ places_from (longer known row index) 0 held
-  pub more_are : map said_held more ≡ filter_map (longer known row index) held
+  pub places_are : places ≡ places_from (longer known row indexes) 0 held
+  pub more_are : map said_held more ≡ filter_map (longer known row indexes) held

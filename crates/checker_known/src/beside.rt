@@ -1,15 +1,16 @@
-ghost use Rattle.std.specs.Prelude.{◌≡◌, ◌+◌, ◌<◌, IfOk, length, map, take};
-ghost use Rattle.checker_state.specs.Stores.{longer, longer_span};
+ghost use Rattle.std.specs.Prelude.{◌≡◌, ◌+◌, ◌<◌, ◌&&◌, IfOk, length, map, take};
+ghost use Rattle.checker_state.specs.State.{le};
+ghost use Rattle.checker_state.specs.Stores.{is_at, longer, longer_by, longer_span};
 ghost use Rattle.checker_known.specs.Longer.{AreLonger};
 ghost use Rattle.checker_known.specs.Known.{core, viewed};
-ghost use Rattle.checker_state.specs.View.{said_bound, said_held, said_more};
-ghost use Rattle.checker_state.specs.View.{said_span, said_span_form};
+ghost use Rattle.checker_state.specs.View.{said_bound, said_held, said_more, said_point, said_span, said_span_form};
+ghost use Rattle.checker_state.specs.View.{said_spans, said_stretched};
 
 use crate::known::Known;
-use checker_state::{Bound, Held, Span, Stretch};
+use checker_state::{Bound, Held, Point, Span, Stretch};
 use std::alloc::{AllocError, Global};
 
-/// What becomes longer where a first index of a row becomes defined: where it stands, and what becomes of it.
+/// What becomes longer where first indexes of a row become defined: where it stands, and what becomes of it.
 #[derive(Drop)]
 pub struct Beside {
     /// The places, in their order.
@@ -19,18 +20,18 @@ pub struct Beside {
 }
 
 impl Known {
-    /// What a first index of a row that becomes defined makes longer.
-    pub fn beside(&self, alloc: Global, row: usize, index: Bound) -> Result<Beside, AllocError>
-        ensures { IfOk result (λ found. AreLonger (viewed (core self.now)) row (said_bound index)
+    /// What first indexes of a row that become defined make longer.
+    pub fn beside(&self, alloc: Global, row: usize, point: Point) -> Result<Beside, AllocError>
+        ensures { IfOk result (λ found. AreLonger (viewed (core self.now)) row (said_point point)
             found.places.items found.longer.items (map said_held self.now.held.items)) }
     {
         let mut beside = Beside {
             places: Vec::new(alloc),
             longer: Vec::new(alloc),
         };
-        let (first, end) = self.near(row, index);
+        let (first, end) = self.near(row, point);
         for place in first..end {
-            self.add_longer(row, index, place, &mut beside)?;
+            self.add_longer(row, point, place, &mut beside)?;
         }
         Ok(beside)
     }
@@ -39,17 +40,17 @@ impl Known {
     fn add_longer(
         &self,
         row: usize,
-        index: Bound,
+        point: Point,
         place: usize,
         beside: &mut Beside,
     ) -> Result<(), AllocError>
         requires { place < length self.now.held.items }
-        ensures { IfOk result (λ _. AreLonger (viewed (core self.now)) row (said_bound index)
+        ensures { IfOk result (λ _. AreLonger (viewed (core self.now)) row (said_point point)
             beside.old.places.items beside.old.longer.items (map said_held (take place self.now.held.items))
-            → AreLonger (viewed (core self.now)) row (said_bound index) beside.new.places.items
+            → AreLonger (viewed (core self.now)) row (said_point point) beside.new.places.items
             beside.new.longer.items (map said_held (take (place + 1) self.now.held.items))) }
     {
-        match self.longer(row, index, &self.held[place]) {
+        match self.longer(row, point, &self.held[place]) {
             None => Ok(()),
             Some(longer) => {
                 beside.places.push(place)?;
@@ -59,25 +60,64 @@ impl Known {
         }
     }
 
-    // What is held of a row with a first index more, if that lies just behind it or before it.
-    fn longer(&self, row: usize, index: Bound, held: &Held) -> Option<Held>
+    // What is held of a row with first indexes more, if these lie just behind it or before it.
+    fn longer(&self, row: usize, point: Point, held: &Held) -> Option<Held>
         ensures { said_more result
-            ≡ longer (viewed (core self.now)) row (said_bound index) (said_held held.now) }
+            ≡ longer (viewed (core self.now)) row (said_point point) (said_held held.now) }
     {
         match held {
             Held::Stretched(stretch) => {
-                if stretch.row != row || stretch.inner.is_some() {
+                if stretch.row != row {
                     return None;
                 }
-                let span = self.longer_span(index, stretch.span)?;
-                Some(Held::Stretched(Stretch {
-                    row,
-                    span,
-                    inner: None,
-                }))
+                let longer = self.longer_stretch(point, *stretch)?;
+                Some(Held::Stretched(longer))
             }
             Held::Ordered(_) => None,
         }
+    }
+
+    fn longer_stretch(&self, point: Point, stretch: Stretch) -> Option<Stretch>
+        ensures { said_stretched result
+            ≡ longer_by (viewed (core self.now)) stretch.row (said_point point) (said_spans stretch) }
+    {
+        match (point.inner, stretch.inner) {
+            (None, None) => {
+                let span = self.longer_span(point.index, stretch.span)?;
+                Some(Stretch {
+                    row: stretch.row,
+                    span,
+                    inner: None,
+                })
+            }
+            (Some(index), Some(inner)) => {
+                if !self.is_at(point.index, stretch.span) {
+                    return None;
+                }
+                let inner = self.longer_span(index, inner)?;
+                Some(Stretch {
+                    row: stretch.row,
+                    span: Span::at(point.index),
+                    inner: Some(inner),
+                })
+            }
+            _ => None,
+        }
+    }
+
+    // Whether a span has just one index.
+    fn is_at(&self, index: Bound, span: Span) -> bool
+        ensures { result ≡ is_at (viewed (core self.now)) (said_bound index) (said_span span) }
+    {
+        self.is_same(span.first, index) && self.is_same(span.last, index)
+    }
+
+    // Whether two bounds are known to be the same.
+    fn is_same(&self, one: Bound, other: Bound) -> bool
+        ensures { result ≡ (le (viewed (core self.now)) (said_bound one) (said_bound other)
+            && le (viewed (core self.now)) (said_bound other) (said_bound one)) }
+    {
+        self.is_at_most(one, other) && self.is_at_most(other, one)
     }
 
     fn longer_span(&self, index: Bound, span: Span) -> Option<Span>

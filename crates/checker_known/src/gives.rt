@@ -1,25 +1,20 @@
-ghost use Rattle.std.specs.Prelude.{◌≡◌, ◌∷◌, [], drop, map, pos};
+ghost use Rattle.std.specs.Prelude.{◌≡◌, map, pos};
 ghost use Rattle.std.specs.List.{list_any};
-ghost use Rattle.checker_rows.specs.Leaves.{index_before};
-ghost use Rattle.checker_rows.specs.Rows.{indexes_at, rows_of};
 ghost use Rattle.checker_state.specs.Bounds.{raised_bound};
-ghost use Rattle.checker_state.specs.State.{Live, bound_range, covers, gives, gives_claim, gives_stretch, has_number};
-ghost use Rattle.checker_state.specs.State.{has_span, has_value, has_values, have_spans, have_values, is_empty};
-ghost use Rattle.checker_state.specs.State.{is_next};
-ghost use Rattle.checker_state.specs.State.{is_spanned, is_whole, le, lies_below, says_at_most};
-ghost use Rattle.checker_known.specs.Told.{has_its_values};
-ghost use Rattle.checker_known.specs.Known.{core, viewed};
-ghost use Rattle.checker_state.specs.View.{AreEnds, inner_spans, said_bound, said_claim, said_held, said_order};
-ghost use Rattle.checker_state.specs.View.{said_span};
+ghost use Rattle.checker_state.specs.State.{Live, bound_range, gives, gives_claim, gives_stretch, has_number};
+ghost use Rattle.checker_state.specs.State.{has_value, has_values, have_values, is_empty, is_next, is_whole};
+ghost use Rattle.checker_state.specs.State.{le, lies_below};
+ghost use Rattle.checker_state.specs.State.{says_at_most, table_of};
+ghost use Rattle.checker_state.specs.View.{AreEnds, said_bound, said_claim, said_held, said_order, said_span};
 ghost use Rattle.checker_state.specs.View.{said_spans, said_stretch, said_term};
-ghost use Rattle.checker_state.specs.State.{table_of};
+ghost use Rattle.checker_known.specs.Known.{core, viewed};
+ghost use Rattle.checker_known.specs.Told.{has_its_values};
 
 use crate::known::Known;
 use crate::order::Group;
 use checker_rows::Rows;
 use checker_state::{Bound, Claim, Ends, Held, Order, Span, Stretch, Term};
 use domain::Domain;
-use types::OrdinalRange;
 
 impl Known {
     /// Whether a bound is known to be at most another: by itself, by ranges, or by an order.
@@ -61,7 +56,7 @@ impl Known {
     }
 
     /// Whether a bound of the program is known to be at most another.
-    fn is_at_most(&self, one: Bound, other: Bound) -> bool
+    pub(crate) fn is_at_most(&self, one: Bound, other: Bound) -> bool
         ensures { result ≡ le (viewed (core self.now)) (said_bound one) (said_bound other) }
     {
         self.le(Term::of(one), Term::of(other))
@@ -74,8 +69,8 @@ impl Known {
         self.le(Term::of(one).moved(1), Term::of(other))
     }
 
-    // Whether a bound is known to be at most the one behind another.
-    fn is_beside(&self, next: Bound, one: Bound) -> bool
+    /// Whether a bound is known to be at most the one behind another.
+    pub(crate) fn is_beside(&self, next: Bound, one: Bound) -> bool
         ensures { result ≡ le (viewed (core self.now)) (said_bound next) (raised_bound (pos 1) (said_bound one)) }
     {
         self.le(Term::of(next), Term::of(one).moved(1))
@@ -104,77 +99,6 @@ impl Known {
                 None => false,
                 Some(inner) => self.is_empty(inner),
             }
-    }
-
-    // Whether a span is known to have all that another has.
-    fn has_span(&self, wanted: Span, held: Span) -> bool
-        ensures { result ≡ has_span (viewed (core self.now)) (said_span wanted) (said_span held) }
-    {
-        self.is_at_most(held.first, wanted.first) && self.is_at_most(wanted.last, held.last)
-    }
-
-    // Whether an inner span is known to have all that is wanted of the inner index.
-    #[tactic(auto, using(crate::proofs::Within::inner_has))]
-    fn has_inner(&self, table: &Rows, wanted: Stretch, held: Option<Span>) -> bool
-        ensures { result ≡ have_spans (viewed (core self.now)) (drop 1 (indexes_at (rows_of table.now) wanted.row))
-            (inner_spans wanted.inner) (inner_spans held) }
-    {
-        match (wanted.inner, held) {
-            (_, None) => true,
-            (None, Some(held)) => self.has_all(table.inner(wanted.row), held),
-            (Some(wanted), Some(held)) => self.has_span(wanted, held),
-        }
-    }
-
-    // Whether a span is known to have all values of an index, if it is told which these are.
-    fn has_all(&self, index: Option<OrdinalRange>, held: Span) -> bool
-        ensures { result ≡ have_spans (viewed (core self.now)) (index_before index []) [] (said_span held ∷ []) }
-    {
-        match index {
-            None => false,
-            Some(range) => self.has_span(Span::all(range), held),
-        }
-    }
-
-    // Whether what is held is known to have all of a stretch.
-    fn is_within(&self, table: &Rows, wanted: Stretch, held: &Held) -> bool
-        ensures { result ≡ covers (viewed (core self.now)) (indexes_at (rows_of table.now) wanted.row)
-            (said_stretch wanted) (said_held held.now) }
-    {
-        match held {
-            Held::Stretched(stretch) => {
-                wanted.row == stretch.row
-                    && self.has_span(wanted.span, stretch.span)
-                    && self.has_inner(table, wanted, stretch.inner)
-            }
-            Held::Ordered(_) => false,
-        }
-    }
-
-    // Whether something that is held is.
-    fn is_covered(&self, table: &Rows, wanted: Stretch) -> bool
-        ensures { result
-            ≡ list_any (covers (viewed (core self.now)) (indexes_at (rows_of table.now) wanted.row)
-            (said_stretch wanted)) (map said_held self.now.held.items) }
-    {
-        let (first, end) = self.places(Group::Row(wanted.row));
-        for place in first..end {
-            if self.is_within(table, wanted, &self.held[place]) {
-                return true;
-            }
-        }
-        false
-    }
-
-    // Whether something that is held has all first indexes of a row, if it has one.
-    #[tactic(auto, using(crate::proofs::Within::spanned_none, crate::proofs::Within::spanned_some))]
-    fn is_spanned(&self, table: &Rows, row: usize) -> bool
-        ensures { result ≡ is_spanned (viewed (core self.now)) row (indexes_at (rows_of table.now) row) }
-    {
-        match table.index(row) {
-            None => false,
-            Some(range) => self.is_covered(table, Stretch::all(row, range)),
-        }
     }
 
     /// Whether each component of a row is known to be defined: by the row, or since all its first indexes are held.
@@ -227,7 +151,7 @@ impl Known {
     {
         self.have_values(table, stretch)
             && (self.has_empty(stretch)
-                || (self.is_whole(table, stretch.row) || self.is_covered(table, stretch)))
+                || (self.is_whole(table, stretch.row) || self.is_had(table, stretch)))
     }
 
     // Whether an order is given: both variables are defined, and the first is at most the second plus the number.

@@ -1,6 +1,6 @@
 ghost use Rattle.std.specs.Prelude.{◌≡◌, map, suc};
 ghost use Rattle.std.specs.Bool.{OnTrue};
-ghost use Rattle.checker_state.specs.View.{said_bound, said_held, said_span, said_spans};
+ghost use Rattle.checker_state.specs.View.{said_held, said_point, said_span, said_spans};
 ghost use Rattle.checker_known.specs.Knots.{IsLoose, goes_on, is_plain, knot, knot_at, lowered, raised, recounted};
 ghost use Rattle.checker_known.specs.Longer.{AreNear};
 ghost use Rattle.checker_known.specs.Known.{core, viewed};
@@ -8,7 +8,7 @@ ghost use Rattle.checker_known.specs.Known.{core, viewed};
 use crate::halves::{Test, edge};
 use crate::known::Known;
 use crate::order::Group;
-use checker_state::{Bound, Held, Span, Stretch};
+use checker_state::{Held, Point, Span, Stretch};
 
 /// The rows in which knots went, or came, at a place and the next.
 pub(crate) type Knots = (Option<usize>, Option<usize>);
@@ -99,19 +99,19 @@ fn raise(knots: &mut Vec<usize>, row: Option<usize>)
 }
 
 impl Known {
-    /// The places between which what an index of a row makes longer stands.
-    pub(crate) fn near(&self, row: usize, index: Bound) -> (usize, usize)
-        ensures { AreNear (viewed (core self.now)) row (said_bound index) (map said_held self.now.held.items)
+    /// The places between which what first indexes of a row make longer stands.
+    pub(crate) fn near(&self, row: usize, point: Point) -> (usize, usize)
+        ensures { AreNear (viewed (core self.now)) row (said_point point) (map said_held self.now.held.items)
             result.0 result.1 }
     {
         let (first, end) = self.places(Group::Row(row));
-        if index.root.is_some() {
+        if point.index.root.is_some() {
             return (first, end);
         }
         if !self.is_loose(row, first, end) {
             return (first, end);
         }
-        let number = i64::from(index.number);
+        let number = i64::from(point.index.number);
         (
             edge(&self.held, Test::EndsBelow(number - 1), first, end),
             edge(&self.held, Test::BeginsBelow(number + 2), first, end),

@@ -5,6 +5,7 @@
 mod beside;
 mod change;
 mod gives;
+mod had;
 mod halves;
 mod knots;
 mod known;

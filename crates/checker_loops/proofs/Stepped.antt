@@ -1,14 +1,14 @@
 -- What is known of rows and of claims, one after another.
 use Rattle.std.proofs.Common.{arith, subst, Bool, true, false, ◌&&◌, ◌≡◌, ◌∙◌, sym, ap, refl, ℕ, zero}
 use Rattle.std.proofs.Common.{suc, ◌+◌, ◌-◌, ◌≤◌, ◌<◌, List, [], ◌∷◌, ◌++◌, append-nil, map, Option, Some, None}
-use Rattle.std.specs.List.{list_all, range_with_len}
+use Rattle.std.specs.List.{flat_map, list_all, range_with_len}
 use Rattle.std.proofs.lemmas.List.{map-append}
 use Rattle.std.proofs.lemmas.List.Concat.{flat_map-append}
 use Rattle.std.proofs.lemmas.List.Folds.{list_all-append, list_all-map, list_all_at}
 use Rattle.std.proofs.lemmas.List.FromFn.{get_or-range_with_len, length-range_with_len}
 use Rattle.certificate.specs.declared.facts.Fact.{Fact as KeptFact}
 use Rattle.certificate.specs.Contents.{said_fact}
-use Rattle.domain.specs.Facts.{Fact, Range, Defined, Order}
+use Rattle.domain.specs.Facts.{Fact, Range, Defined, Order, Span}
 use Rattle.domain.specs.Interval.{Interval}
 use Rattle.typed_tree.specs.declared.tree.Tree.{Tree}
 use Rattle.checker_rows.specs.Rows.{rows_touched, rows_under}
@@ -18,8 +18,8 @@ use Rattle.checker_state.specs.State.{Claim, State, with_range}
 use Rattle.checker_trail.specs.declared.state.State.{State as Kept}
 use Rattle.checker_trail.specs.Trail.{Moves, seen}
 use Rattle.checker_trail.proofs.Ways.{moves-as, moves-stay, moves-then}
-use Rattle.checker_loops.specs.Loops.{Round, all_said, said, touched, with_own}
-use Rattle.checker_loops.specs.View.{claim_at, own_controls, rows_said}
+use Rattle.checker_loops.specs.Loops.{Round, all_said, asked, said, said_by, touched, with_own}
+use Rattle.checker_loops.specs.View.{claim_at, claim_by, own_controls, rows_said}
 
 -- ---- rows with consecutive numbers
 
@@ -106,10 +106,11 @@ rows-root limits tree roots root rows state is =
 -- ---- claims
 
 -- a fact says what it says of each row
-pub said-by-rows : (tree : Tree) (fact : Fact) → map (claim_at tree fact) (rows_said tree fact) ≡ said tree fact
-said-by-rows tree (Range path range) = refl
-said-by-rows tree (Defined path spans) = refl
-said-by-rows tree (Order root other number) = refl
+pub said-by-rows : (defined : List Span → ℕ → Claim) (tree : Tree) (fact : Fact)
+    → map (claim_by defined fact) (rows_said tree fact) ≡ said_by defined tree fact
+said-by-rows defined tree (Range path range) = refl
+said-by-rows defined tree (Defined path spans) = refl
+said-by-rows defined tree (Order root other number) = refl
 
 pub claims-row : (tree : Tree) (fact : Fact) (rows : List ℕ) (row : ℕ) (claim : Claim) (state : State) → claim ≡ claim_at tree fact row
     → with_claim claim (with_claims (map (claim_at tree fact) rows) state) ≡ with_claims (map (claim_at tree fact) (rows ++ row ∷ [])) state
@@ -144,13 +145,13 @@ not-given test claim first count row last is from before here =
     ∙ list_all_at (λ n. test (claim n)) (range_with_len first count) i 0 (subst (λ n. i < n) (sym (length-range_with_len first count)) inside)
     (ap (λ n. test (claim n)) (get_or-range_with_len first count i 0 inside ∙ at) ∙ here)
 
--- it gives each fact exactly where it gives what all say
+-- it gives each fact exactly where it gives what is asked for all
 pub claims_given : (test : Claim → Bool) (tree : Tree) (facts : List KeptFact)
-    → list_all (λ fact. list_all test (said tree (said_fact fact))) facts ≡ list_all test (all_said tree (map said_fact facts))
+    → list_all (λ fact. list_all test (asked tree (said_fact fact))) facts ≡ list_all test (flat_map (asked tree) (map said_fact facts))
 claims_given test tree [] = refl
 claims_given test tree (fact ∷ facts) =
-    ap (λ rest. list_all test (said tree (said_fact fact)) && rest) (claims_given test tree facts)
-    ∙ sym (list_all-append test (said tree (said_fact fact)) (all_said tree (map said_fact facts)))
+    ap (λ rest. list_all test (asked tree (said_fact fact)) && rest) (claims_given test tree facts)
+    ∙ sym (list_all-append test (asked tree (said_fact fact)) (flat_map (asked tree) (map said_fact facts)))
 
 -- ---- what a loop touches at its head
 

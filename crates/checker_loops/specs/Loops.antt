@@ -12,7 +12,7 @@ use Rattle.domain.specs.Facts.{Path}
 use Rattle.checker_rows.specs.Limits.{row_limits}
 use Rattle.checker_rows.specs.Rows.{Named, index_at, part_named, rows_of, rows_touched, rows_under}
 use Rattle.checker_state.specs.Bounds.{Bound, constant, plus}
-use Rattle.checker_state.specs.State.{Claim, Holds, Ordered, Range, Span, State, Stretched, table_of}
+use Rattle.checker_state.specs.State.{Claim, Defined, Holds, Ordered, Range, Span, State, Stretched, table_of}
 use Rattle.checker_state.specs.Loops.{gives_all, head, is_among}
 use Rattle.checker_state.specs.Stores.{all_of_row}
 use Rattle.checker_loops.specs.Pairs.{Listed, all_aliases_in}
@@ -50,18 +50,30 @@ defined_of tree [] row = all_of_row (index_at (rows_of tree) row) row
 defined_of tree (span ∷ spans) row =
     Holds (Stretched (record { row = row; spans = said_span span ∷ map said_span spans }))
 
--- what a claim says of rows, and of variables
+-- what is asked for that: all of a row is asked of the row, so that two stretches that meet don't give it together
+abbrev pub asked_of : Tree → List fact.Span → ℕ → Claim
+asked_of tree [] row = Defined row
+asked_of tree (span ∷ spans) row = defined_of tree (span ∷ spans) row
+
+-- what a claim says of rows, and of variables, by what it is of a row to be defined
+abbrev pub said_by : (List fact.Span → ℕ → Claim) → Tree → fact.Fact → List Claim
+said_by defined tree (fact.Range path range) = map (λ row. Range row range) (rows_named tree path)
+said_by defined tree (fact.Defined path spans) = map (defined spans) (rows_named tree path)
+said_by defined tree (fact.Order root other number) = Holds (Ordered root other number) ∷ []
+
 abbrev pub said : Tree → fact.Fact → List Claim
-said tree (fact.Range path range) = map (λ row. Range row range) (rows_named tree path)
-said tree (fact.Defined path spans) = map (defined_of tree spans) (rows_named tree path)
-said tree (fact.Order root other number) = Holds (Ordered root other number) ∷ []
+said tree fact = said_by (defined_of tree) tree fact
 
 abbrev pub all_said : Tree → List fact.Fact → List Claim
 all_said tree facts = flat_map (said tree) facts
 
+-- what is asked of a state for a claim
+abbrev pub asked : Tree → fact.Fact → List Claim
+asked tree fact = said_by (asked_of tree) tree fact
+
 -- a state gives each of several claims
 abbrev pub gives_claims : Tree → State → List fact.Fact → Bool
-gives_claims tree state facts = gives_all (table_of tree) state (all_said tree facts)
+gives_claims tree state facts = gives_all (table_of tree) state (flat_map (asked tree) facts)
 
 -- ---- the claims of a certificate
 

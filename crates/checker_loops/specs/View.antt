@@ -10,13 +10,13 @@ use denote.Ref.{Bor}
 use Rattle.certificate.specs.declared.AliasPair.{AliasPair}
 use Rattle.certificate.specs.declared.LoopClaims.{LoopClaims as LoopLines}
 use Rattle.certificate.specs.Contents.{LoopClaims, loop_of, said_fact}
-use Rattle.domain.specs.Facts.{Fact, Range, Defined, Order}
+use Rattle.domain.specs.Facts.{Fact, Range, Defined, Order, Span}
 use Rattle.checker_state.specs.State as state
 use Rattle.checker_state.specs.State.{Claim, Holds, Ordered}
 use Rattle.typed_tree.specs.declared.tree.Tree.{Tree}
 use Rattle.checker_loops.specs.declared.loops.Claims.{Claims as KeptClaims}
 use Rattle.checker_loops.specs.declared.rounds.Round.{Round as KeptRound}
-use Rattle.checker_loops.specs.Loops.{Claims, Round, claims_of, defined_of, or_else, round_of, rows_named}
+use Rattle.checker_loops.specs.Loops.{Claims, Round, asked_of, claims_of, defined_of, or_else, round_of, rows_named}
 use Rattle.checker_loops.specs.Loops.{with_own}
 use Rattle.checker_loops.specs.Pairs.{Listed, aliases_of, declared_aliases, declares, partner}
 
@@ -32,11 +32,18 @@ rows_said tree (Range path range) = rows_named tree path
 rows_said tree (Defined path spans) = rows_named tree path
 rows_said tree (Order root other number) = 0 ∷ []
 
--- what it says there
+-- what it says there, by what it is of a row to be defined
+abbrev pub claim_by : (List Span → ℕ → Claim) → Fact → ℕ → Claim
+claim_by defined (Range path range) row = state.Range row range
+claim_by defined (Defined path spans) row = defined spans row
+claim_by defined (Order root other number) row = Holds (Ordered root other number)
+
 abbrev pub claim_at : Tree → Fact → ℕ → Claim
-claim_at tree (Range path range) row = state.Range row range
-claim_at tree (Defined path spans) row = defined_of tree spans row
-claim_at tree (Order root other number) row = Holds (Ordered root other number)
+claim_at tree fact row = claim_by (defined_of tree) fact row
+
+-- what is asked there
+abbrev pub asked_at : Tree → Fact → ℕ → Claim
+asked_at tree fact row = claim_by (asked_of tree) fact row
 
 -- claims that the checker has found, as the definitions see them
 abbrev pub found_as : Option (Bor LoopLines) → Option LoopClaims

@@ -7,9 +7,9 @@ ghost use Rattle.checker_state.specs.Loops.{gives_all, with_claims};
 ghost use Rattle.checker_state.specs.State.{table_of};
 ghost use Rattle.checker_state.specs.View as kept;
 ghost use Rattle.checker_trail.specs.Trail.{Moves, seen};
-ghost use Rattle.checker_loops.specs.Loops.{all_said, defined_of, gives_claims, rows_named, said, said_bound};
+ghost use Rattle.checker_loops.specs.Loops.{all_said, asked, defined_of, gives_claims, rows_named, said, said_bound};
 ghost use Rattle.checker_loops.specs.Loops.{said_span};
-ghost use Rattle.checker_loops.specs.View.{claim_at, rows_said};
+ghost use Rattle.checker_loops.specs.View.{asked_at, claim_at, rows_said};
 
 use certificate::Fact;
 use checker_rows::{Rows, Span};
@@ -52,12 +52,12 @@ pub fn gives_facts(state: &State, facts: &[Fact]) -> bool
 /// Whether it gives a fact, row by row.
 fn gives_fact(state: &State, fact: &Fact) -> bool
     ensures { result ≡ gives_all (table_of state.now.table.now) (seen state.now)
-        (said state.now.table.now (said_fact fact.now)) }
+        (asked state.now.table.now (said_fact fact.now)) }
 {
     let rows = state.table();
     let span = rows_said(rows, fact);
     for row in span.first..span.end() {
-        if !state.gives(&claim_at(rows, fact, row)) {
+        if !state.gives(&asked_at(rows, fact, row)) {
             return false;
         }
     }
@@ -94,6 +94,19 @@ fn claim_at(rows: &Rows, fact: &Fact, row: usize) -> Claim
     }
 }
 
+/// What is asked there: all of a row is asked of the row, so that two stretches that meet don't give it together.
+fn asked_at(rows: &Rows, fact: &Fact, row: usize) -> Claim
+    ensures { kept.said_claim result ≡ asked_at rows.now (said_fact fact.now) row }
+{
+    match fact {
+        Fact::Defined {
+            spans: Spans::None,
+            ..
+        } => Claim::Defined { row },
+        fact => claim_at(rows, fact, row),
+    }
+}
+
 /// All of a row is defined, or what lies in spans.
 fn defined_of(rows: &Rows, spans: Spans, row: usize) -> Claim
     ensures { kept.said_claim result ≡ defined_of rows.now (fact.said_spans spans) row }
@@ -104,6 +117,11 @@ fn defined_of(rows: &Rows, spans: Spans, row: usize) -> Claim
             row,
             span: kept_span(span),
             inner: None,
+        })),
+        Spans::Two(span, inner) => Claim::Holds(Held::Stretched(Stretch {
+            row,
+            span: kept_span(span),
+            inner: Some(kept_span(inner)),
         })),
     }
 }

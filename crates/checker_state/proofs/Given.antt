@@ -1,24 +1,27 @@
 -- Claims that a state gives hold where it holds.
 use Rattle.std.proofs.Common.{arith, ◌≡◌, ⊎_elim, ◌∙◌, sym, ap, refl, subst, ℕ, ℤ, pos, ◌+ℤ◌, ◌≤ℤ◌, true, ◌&&◌, ◌||◌, nat_eq, nat_lt}
-use Rattle.std.proofs.Common.{List, [], ◌∷◌, drop, Option, Some, None}
+use Rattle.std.proofs.Common.{List, [], ◌∷◌, ◌⊎◌, inl, inr, drop, map, take, Option, Some, None}
 use Rattle.std.specs.List.{list_any}
-use Rattle.std.proofs.lemmas.Int.{ints}
+use Rattle.std.proofs.lemmas.Int.{by_lt_z, ints}
 use Rattle.std.proofs.lemmas.Bool.{and_parts, eqb-true, ltb-true, or_cases}
 use Rattle.types.specs.declared.form.OrdinalRange.{OrdinalRange}
 use Rattle.types.specs.declared.form.Step.{Step}
 use Rattle.types.specs.declared.form.Step.TheVariants as step
 use Rattle.meaning.specs.Store.{Environment, Store}
 use Rattle.checker_rows.specs.Rows.{LieIn, Parts, first_index, indexes_of}
-use Rattle.checker_state.specs.Bounds.{Bound, constant, plus}
+use Rattle.domain.specs.Versions.{has}
+use Rattle.domain.specs.declared.versions.Extension.TheVariants.{Blocks}
+use Rattle.checker_state.specs.Bounds.{Bound, constant, plus, raised_bound}
 use Rattle.checker_state.specs.State.{Claim, Dead, Defined, Facts, Held, Holds as Holding, Live, Ordered, Range, Span, State, Stretch, Stretched, Table}
-use Rattle.checker_state.specs.State.{all_indexes, all_of}
-use Rattle.checker_state.specs.State.{covers, gives, gives_claim, gives_stretch, has_number, has_span, has_value, has_values, have_spans, have_values, is_empty}
-use Rattle.checker_state.specs.State.{is_spanned, is_whole, le, row_at, state_gives}
+use Rattle.checker_state.specs.State.{Wanted, all_indexes, begin_in_time, begins, covers, gives, gives_claim, gives_stretch, go_on, has_number, has_span}
+use Rattle.checker_state.specs.State.{has_value, has_values, have_spans, have_values, is_covered, is_empty, is_had, is_joined, joins}
+use Rattle.checker_state.specs.State.{is_spanned, is_whole, le, row_at, state_gives, wanted_of}
 use Rattle.checker_state.specs.Holds.{AreBounds, AreDefined, FactsHold, HasNumber, HasValue, HeldHolds, Holds, IsBound, IsBoundBy, IsWhole, LieBetween, Moment}
 use Rattle.checker_state.specs.Holds.{HoldNumbers, IndexesLie, IsOfRow, HasComponent, Numbers, StateHolds, StretchHolds, moment}
 use Rattle.checker_state.specs.Knows.{AreRows, Shows}
 use Rattle.checker_state.specs.Laws.{GivenHolds}
-use Rattle.checker_state.proofs.Bounds.{IsTold, le-is, lies_below-is, told-of}
+use Rattle.checker_state.specs.Stores.{all_of_row}
+use Rattle.checker_state.proofs.Bounds.{IsTold, le-is, lies_below-is, raised-is, told-of}
 use Rattle.checker_state.proofs.Lists.{any-in}
 use Rattle.checker_state.proofs.Ranged.{included-in}
 use Rattle.checker_state.proofs.Rows.{whole-own}
@@ -43,10 +46,47 @@ lie-behind : (ranges : List OrdinalRange) (index : ℤ) (indexes : List ℤ) →
 lie-behind [] index indexes lie = tt
 lie-behind (range ∷ ranges) index indexes lie = lie.2
 
+-- bounds that are known to be at most a first number, and at least a last one, are
+pub record IsWanted (m : Moment) (wanted : Wanted) (numbers : Numbers) : Type 0 where
+  pub from : (bound : Bound) (n : ℤ) → IsBound m bound n → wanted.begins bound ≡ true → n ≤ℤ numbers.first
+  pub to : (bound : Bound) (n : ℤ) → IsBound m bound n → wanted.ends bound ≡ true → numbers.last ≤ℤ n
+
+abbrev pub AreWanted : Moment → List Wanted → List Numbers → Type 0
+AreWanted m [] [] = Unit {0}
+AreWanted m [] (one ∷ numbers) = ⊥
+AreWanted m (want ∷ wanted) [] = ⊥
+AreWanted m (want ∷ wanted) (one ∷ numbers) = IsWanted m want one × AreWanted m wanted numbers
+
+-- those of the first of some
+first-wanted : (m : Moment) (wanted : List Wanted) (numbers : List Numbers) → AreWanted m wanted numbers → AreWanted m (take 1 wanted) (take 1 numbers)
+first-wanted m [] [] are = tt
+first-wanted m [] (one ∷ numbers) are = absurd are
+first-wanted m (want ∷ wanted) [] are = absurd are
+first-wanted m (want ∷ wanted) (one ∷ numbers) are = (are.0, tt)
+
+first-between : (numbers : List Numbers) (indexes : List ℤ) → LieBetween numbers indexes → LieBetween (take 1 numbers) indexes
+first-between [] indexes lie = tt
+first-between (one ∷ numbers) [] lie = absurd lie
+first-between (one ∷ numbers) (index ∷ indexes) lie = (lie.0, lie.1, tt)
+
 module _ (rows : List Parts) (m : Moment) (known : Facts) (told : IsTold rows m known) where
-  -- indexes of some values that lie between the numbers of spans lie between those of spans that have them
-  spans-have : (ranges : List OrdinalRange) (wanted held : List Span) (between around : List Numbers) (indexes : List ℤ)
-      → have_spans known ranges wanted held ≡ true → AreBounds m wanted between → AreBounds m held around → LieIn ranges indexes
+  -- what is asked of spans between bounds is so of their numbers
+  pub wanted-is : (span : Span) (numbers : Numbers) → IsBound m span.first numbers.first → IsBound m span.last numbers.last
+      → IsWanted m (wanted_of known span) numbers
+  wanted-is span numbers first last = record {
+    from = λ bound n at is. le-is rows m known told bound span.first n numbers.first at first is;
+    to = λ bound n at is. le-is rows m known told span.last bound numbers.last n last at is;
+  }
+
+  pub wanted-are : (spans : List Span) (numbers : List Numbers) → AreBounds m spans numbers → AreWanted m (map (wanted_of known) spans) numbers
+  wanted-are [] [] are = tt
+  wanted-are [] (one ∷ numbers) are = are
+  wanted-are (span ∷ spans) [] are = are
+  wanted-are (span ∷ spans) (one ∷ numbers) are = (wanted-is span one are.0 are.1, wanted-are spans numbers are.2)
+
+  -- indexes of some values that lie between wanted numbers lie between those of spans that have what is wanted
+  spans-have : (ranges : List OrdinalRange) (wanted : List Wanted) (held : List Span) (between around : List Numbers) (indexes : List ℤ)
+      → have_spans known ranges wanted held ≡ true → AreWanted m wanted between → AreBounds m held around → LieIn ranges indexes
       → LieBetween between indexes → LieBetween around indexes
   spans-have ranges wanted [] between [] indexes is inner outer inside lie = tt
   spans-have ranges wanted [] between (one ∷ around) indexes is inner outer inside lie = absurd outer
@@ -54,26 +94,61 @@ module _ (rows : List Parts) (m : Moment) (known : Facts) (told : IsTold rows m 
   spans-have [] [] (span ∷ held) between (own ∷ around) indexes is inner outer inside lie = absurd (cc)
   spans-have (range ∷ ranges) [] (span ∷ held) between (own ∷ around) [] is inner outer inside lie = absurd inside
   spans-have (range ∷ ranges) [] (span ∷ held) between (own ∷ around) (index ∷ indexes) is inner outer inside lie =
-      let parts = and_parts (has_span known (all_indexes range) span) (have_spans known ranges [] held) is in
+      let all : Numbers = record { first = range.first; last = range.last } in
+      let want = wanted-is (all_indexes range) all refl refl in
+      let parts = and_parts (has_span (wanted_of known (all_indexes range)) span) (have_spans known ranges [] held) is in
       let both = and_parts (le known span.first (constant range.first)) (le known (constant range.last) span.last) parts.0 in
-      let below : own.first ≤ℤ range.first = le-is rows m known told span.first (constant range.first) own.first range.first outer.0 refl both.0 in
-      let above : range.last ≤ℤ own.last = le-is rows m known told (constant range.last) span.last range.last own.last refl outer.1 both.1 in
+      let below : own.first ≤ℤ range.first = want.from span.first own.first outer.0 both.0 in
+      let above : range.last ≤ℤ own.last = want.to span.last own.last outer.1 both.1 in
       let low = inside.0 in
       let high = inside.1 in
       (omega (arith, ints), omega (arith, ints), spans-have ranges [] held [] around indexes parts.1 tt outer.2 inside.2 tt)
-  spans-have ranges (one ∷ wanted) (span ∷ held) [] (own ∷ around) indexes is inner outer inside lie = absurd inner
-  spans-have ranges (one ∷ wanted) (span ∷ held) (first ∷ between) (own ∷ around) [] is inner outer inside lie = absurd lie
-  spans-have ranges (one ∷ wanted) (span ∷ held) (first ∷ between) (own ∷ around) (index ∷ indexes) is inner outer inside lie =
-      let parts = and_parts (has_span known one span) (have_spans known (drop 1 ranges) wanted held) is in
-      let both = and_parts (le known span.first one.first) (le known one.last span.last) parts.0 in
-      let below : own.first ≤ℤ first.first = le-is rows m known told span.first one.first own.first first.first outer.0 inner.0 both.0 in
-      let above : first.last ≤ℤ own.last = le-is rows m known told one.last span.last first.last own.last inner.1 outer.1 both.1 in
+  spans-have ranges (want ∷ wanted) (span ∷ held) [] (own ∷ around) indexes is inner outer inside lie = absurd inner
+  spans-have ranges (want ∷ wanted) (span ∷ held) (first ∷ between) (own ∷ around) [] is inner outer inside lie = absurd lie
+  spans-have ranges (want ∷ wanted) (span ∷ held) (first ∷ between) (own ∷ around) (index ∷ indexes) is inner outer inside lie =
+      let parts = and_parts (has_span want span) (have_spans known (drop 1 ranges) wanted held) is in
+      let both = and_parts (want.begins span.first) (want.ends span.last) parts.0 in
+      let below : own.first ≤ℤ first.first = inner.0.from span.first own.first outer.0 both.0 in
+      let above : first.last ≤ℤ own.last = inner.0.to span.last own.last outer.1 both.1 in
       let low = lie.0 in
       let high = lie.1 in (
         omega (arith, ints),
         omega (arith, ints),
-        spans-have (drop 1 ranges) wanted held between around indexes parts.1 inner.2 outer.2 (lie-behind ranges index indexes inside) lie.2,
+        spans-have (drop 1 ranges) wanted held between around indexes parts.1 inner.1 outer.2 (lie-behind ranges index indexes inside) lie.2,
       )
+
+  -- they lie between those of one of two lists of spans, of which the one begins in time and the other goes on from it
+  spans-join : (ranges : List OrdinalRange) (wanted : List Wanted) (one other : List Span) (between around beyond : List Numbers) (indexes : List ℤ)
+      → begin_in_time known ranges wanted one ≡ true → go_on known ranges wanted one other ≡ true → AreWanted m wanted between → AreBounds m one around
+      → AreBounds m other beyond → LieIn ranges indexes → LieBetween between indexes → LieBetween around indexes ⊎ LieBetween beyond indexes
+  spans-join ranges [] one other between around beyond indexes begin goes inner first next inside lie = absurd (cc)
+  spans-join ranges (want ∷ wanted) [] other between around beyond indexes begin goes inner first next inside lie = absurd (cc)
+  spans-join ranges (want ∷ wanted) (span ∷ one) [] between around beyond indexes begin goes inner first next inside lie = absurd (cc)
+  spans-join ranges (want ∷ wanted) (span ∷ one) (more ∷ other) [] around beyond indexes begin goes inner first next inside lie = absurd inner
+  spans-join ranges (want ∷ wanted) (span ∷ one) (more ∷ other) (own ∷ between) [] beyond indexes begin goes inner first next inside lie = absurd first
+  spans-join ranges (want ∷ wanted) (span ∷ one) (more ∷ other) (own ∷ between) (low ∷ around) [] indexes begin goes inner first next inside lie =
+      absurd next
+  spans-join ranges (want ∷ wanted) (span ∷ one) (more ∷ other) (own ∷ between) (low ∷ around) (high ∷ beyond) [] begin goes inner first next inside lie =
+      absurd lie
+  spans-join ranges (want ∷ wanted) (span ∷ one) (more ∷ other) (own ∷ between) (low ∷ around) (high ∷ beyond) (index ∷ indexes) begin goes inner first next
+      inside lie =
+      let beginning = and_parts (want.begins span.first) (have_spans known (drop 1 ranges) wanted one) begin in
+      let near = le known more.first (raised_bound (pos 1) span.last) in
+      let going = and_parts near (want.ends more.last && have_spans known (drop 1 ranges) wanted other) goes in
+      let ending = and_parts (want.ends more.last) (have_spans known (drop 1 ranges) wanted other) going.1 in
+      let behind = lie-behind ranges index indexes inside in
+      let from : low.first ≤ℤ own.first = inner.0.from span.first low.first first.0 beginning.0 in
+      let to : own.last ≤ℤ high.last = inner.0.to more.last high.last next.1 ending.0 in
+      let joint : high.first ≤ℤ (low.last +ℤ pos 1) =
+      le-is rows m known told more.first (raised_bound (pos 1) span.last) high.first (low.last +ℤ pos 1) next.0 (raised-is m (pos 1) span.last low.last first.1)
+      going.0 in
+      let above = lie.0 in
+      let below = lie.1 in
+      by_lt_z low.last index
+      (λ beyond_it.
+      inr (omega (arith, ints), omega (arith, ints), spans-have (drop 1 ranges) wanted other between beyond indexes ending.1 inner.1 next.2 behind lie.2))
+      (λ within_it.
+      inl (omega (arith, ints), omega (arith, ints), spans-have (drop 1 ranges) wanted one between around indexes beginning.1 inner.1 first.2 behind lie.2))
 
   -- no index lies in spans of which one is empty
   none-between : (spans : List Span) (numbers : List Numbers) (indexes : List ℤ) → list_any (is_empty known) spans ≡ true → AreBounds m spans numbers
@@ -90,21 +165,62 @@ module _ (rows : List Parts) (m : Moment) (known : Facts) (told : IsTold rows m 
       omega (arith, ints))
       (λ later. none-between spans numbers indexes later are.2 lie.2) (or_cases (is_empty known span) (list_any (is_empty known) spans) is)
 
-  -- the components of a stretch that what is held covers
-  covered : (ranges : List OrdinalRange) (wanted : Stretch) (numbers : List Numbers) → IndexesLie rows wanted.row ranges
-      → AreBounds m wanted.spans numbers → list_any (covers known ranges wanted) known.held ≡ true → AreDefined rows wanted.row numbers m
-  covered ranges wanted numbers lies are is =
-      let found = any-in (covers known ranges wanted) known.held is in by found.0 (told.held found.0 found.1) found.2
-    where
-      by : (one : Held) → HeldHolds rows one m → covers known ranges wanted one ≡ true → AreDefined rows wanted.row numbers m
-      by (Ordered root other number) holds is = absurd (cc)
-      by (Stretched stretch) (around, around_are, each) is =
-          let parts = and_parts (nat_eq wanted.row stretch.row) (have_spans known ranges wanted.spans stretch.spans) is in
-          let same : wanted.row ≡ stretch.row = eqb-true wanted.row stretch.row parts.0 in
-          λ steps index of_row first lie.
-          subst (λ row. HasComponent rows m row steps) (sym same)
-          (each steps index (subst (λ row. IsOfRow rows row steps) same of_row) first
-          (spans-have ranges wanted.spans stretch.spans numbers around (indexes_of steps) parts.1 are around_are (lies steps of_row) lie))
+  module _ (ranges : List OrdinalRange) (row : ℕ) (lies : IndexesLie rows row ranges) (wanted : List Wanted) (numbers : List Numbers)
+      (are : AreWanted m wanted numbers) where
+    -- the components that are wanted, where one that is held has them all
+    covered-by : (one : Held) → HeldHolds rows one m → covers known ranges row wanted one ≡ true → AreDefined rows row numbers m
+    covered-by (Ordered root other number) holds is = absurd (cc)
+    covered-by (Stretched stretch) (around, around_are, each) is =
+        let parts = and_parts (nat_eq row stretch.row) (have_spans known ranges wanted stretch.spans) is in
+        let same : row ≡ stretch.row = eqb-true row stretch.row parts.0 in
+        λ steps index of_row first lie.
+        subst (λ (r : ℕ). HasComponent rows m r steps) (sym same)
+        (each steps index (subst (λ (r : ℕ). IsOfRow rows r steps) same of_row) first
+        (spans-have ranges wanted stretch.spans numbers around (indexes_of steps) parts.1 are around_are (lies steps of_row) lie))
+
+    pub covered : is_covered known ranges row wanted ≡ true → AreDefined rows row numbers m
+    covered is =
+        let found = any-in (covers known ranges row wanted) known.held is in covered-by found.0 (told.held found.0 found.1) found.2
+
+    -- where two have them together
+    joined-by : (one other : Held) → HeldHolds rows one m → HeldHolds rows other m → begins known ranges row wanted one ≡ true
+        → joins known ranges row wanted one other ≡ true → AreDefined rows row numbers m
+    joined-by (Ordered root by number) other holds also begin goes = absurd (cc)
+    joined-by (Stretched one) (Ordered root by number) holds also begin goes = absurd (cc)
+    joined-by (Stretched one) (Stretched other) (around, around_are, each) (beyond, beyond_are, more) begin goes =
+        let first = and_parts (nat_eq row one.row) (begin_in_time known ranges wanted one.spans) begin in
+        let next = and_parts (nat_eq row other.row) (go_on known ranges wanted one.spans other.spans) goes in
+        let same : row ≡ one.row = eqb-true row one.row first.0 in
+        let also : row ≡ other.row = eqb-true row other.row next.0 in
+        λ steps index of_row at lie.
+        ⊎_elim
+        (λ inside. subst (λ (r : ℕ). HasComponent rows m r steps) (sym same) (each steps index (subst (λ (r : ℕ). IsOfRow rows r steps) same of_row) at inside))
+        (λ inside. subst (λ (r : ℕ). HasComponent rows m r steps) (sym also) (more steps index (subst (λ (r : ℕ). IsOfRow rows r steps) also of_row) at inside))
+        (spans-join ranges wanted one.spans other.spans numbers around beyond (indexes_of steps) first.1 next.1 are around_are beyond_are (lies steps of_row)
+        lie)
+
+    pub joined : is_joined known ranges row wanted ≡ true → AreDefined rows row numbers m
+    joined is =
+        let first = any-in (λ one. begins known ranges row wanted one && list_any (joins known ranges row wanted one) known.held) known.held is in
+        let parts = and_parts (begins known ranges row wanted first.0) (list_any (joins known ranges row wanted first.0) known.held) first.2 in
+        let next = any-in (joins known ranges row wanted first.0) known.held parts.1 in
+        joined-by first.0 next.0 (told.held first.0 first.1) (told.held next.0 next.1) parts.0 next.2
+
+  -- the components that are wanted, where they are had
+  pub had : (ranges : List OrdinalRange) (row : ℕ) → IndexesLie rows row ranges → (wanted : List Wanted) (numbers : List Numbers)
+      → AreWanted m wanted numbers → is_had known ranges row wanted ≡ true → AreDefined rows row numbers m
+  had ranges row lies wanted numbers are is =
+      let one = is_covered known ranges row (take 1 wanted) in
+      let two = is_joined known ranges row (take 1 wanted) in
+      let first = first-wanted m wanted numbers are in
+      ⊎_elim (covered ranges row lies wanted numbers are)
+      (λ (blocks : (has known.rules Blocks && (one || two)) ≡ true) steps index of_row at lie.
+      ⊎_elim (λ by_one. covered ranges row lies (take 1 wanted) (take 1 numbers) first by_one steps index of_row at
+      (first-between numbers (indexes_of steps) lie))
+      (λ by_two. joined ranges row lies (take 1 wanted) (take 1 numbers) first by_two steps index of_row at
+      (first-between numbers (indexes_of steps) lie))
+      (or_cases one two (and_parts (has known.rules Blocks) (one || two) blocks).1))
+      (or_cases (is_covered known ranges row wanted) (has known.rules Blocks && (one || two)) is)
 
 -- ---- what is given
 
@@ -153,8 +269,10 @@ module _ (rows : List Parts) (table : Table) (are : AreRows rows table) (env : E
   spanned-whole row (range ∷ ranges) lies is = λ steps of_row.
       let (index, first, low, high) = first-lies range ranges steps (lies steps of_row) in
       let all = first-of steps index first in
-      covered rows m known told (range ∷ ranges) (all_of row range) (record { first = range.first; last = range.last } ∷ []) lies (refl, refl, tt) is
-      steps index of_row first (subst (LieBetween (record { first = range.first; last = range.last } ∷ [])) (sym all.1) (low, high, tt))
+      let values : Numbers = record { first = range.first; last = range.last } in
+      covered rows m known told (range ∷ ranges) row lies (wanted_of known (all_indexes range) ∷ []) (values ∷ [])
+      (wanted-is rows m known told (all_indexes range) values refl refl, tt) is steps index of_row first
+      (subst (LieBetween (values ∷ [])) (sym all.1) (low, high, tt))
 
   -- each component of a row
   pub whole-holds : (row : ℕ) → is_whole table known row ≡ true → IsWhole rows row m
@@ -166,7 +284,7 @@ module _ (rows : List Parts) (table : Table) (are : AreRows rows table) (env : E
   stretch-given stretch is =
       let empty = list_any (is_empty known) stretch.spans in
       let whole = is_whole table known stretch.row in
-      let any = list_any (covers known (table.indexes stretch.row) stretch) known.held in
+      let any = is_had known (table.indexes stretch.row) stretch.row (map (wanted_of known) stretch.spans) in
       let parts = and_parts (have_values table (Live known) stretch.spans) (empty || (whole || any)) is in
       let values = values-are stretch.spans parts.0 in (
         values.0,
@@ -175,7 +293,8 @@ module _ (rows : List Parts) (table : Table) (are : AreRows rows table) (env : E
             ⊎_elim (λ none. absurd (none-between rows m known told stretch.spans values.0 (indexes_of steps) none values.1 lie))
             (λ rest. ⊎_elim (λ all. whole-holds stretch.row all steps of_row)
             (λ some.
-            covered rows m known told (table.indexes stretch.row) stretch values.0 (are.indexes stretch.row) values.1 some steps index of_row first lie)
+            had rows m known told (table.indexes stretch.row) stretch.row (are.indexes stretch.row) (map (wanted_of known) stretch.spans) values.0
+            (wanted-are rows m known told stretch.spans values.0 values.1) some steps index of_row first lie)
             (or_cases whole any rest))
             (or_cases empty (whole || any) parts.1),
       )
@@ -202,6 +321,12 @@ state-given : (rows : List Parts) (table : Table) → AreRows rows table → (en
 state-given rows table are env shows store numbers Dead claim holds is = absurd holds
 state-given rows table are env shows store numbers (Live known) claim holds is =
     claim-given rows table are env shows store numbers known holds claim is
+
+-- where each component of a row is defined, what may be held of that is so
+pub whole-told : (rows : List Parts) (m : Moment) (row : ℕ) (index : Option OrdinalRange) → IsWhole rows row m → Holds rows (all_of_row index row) m
+whole-told rows m row None whole = whole
+whole-told rows m row (Some range) whole =
+    (record { first = range.first; last = range.last } ∷ [], (refl, refl, tt), λ steps index of_row at lie. whole steps of_row)
 
 pub given-holds : GivenHolds
 given-holds rows table are env state store claim numbers known is =

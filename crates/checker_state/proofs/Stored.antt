@@ -1,30 +1,30 @@
 -- What is known after values were stored to components of rows holds.
-use Rattle.std.proofs.Common.{arith, ◌≡◌, ◌⊎◌, ⊎_elim, inl, inr, ◌∙◌, sym, ap, refl, subst, ℕ, ℤ, pos, ◌+ℤ◌, ◌≤ℤ◌, ◌≤◌, Bool, true, false, cond}
-use Rattle.std.proofs.Common.{nat_eq, List, [], ◌∷◌, get_or, Option, Some, None}
+use Rattle.std.proofs.Common.{arith, ◌≡◌, ◌⊎◌, ⊎_elim, inl, inr, ◌∙◌, sym, ap, refl, subst, ℕ, ℤ, pos, ◌+ℤ◌, ◌≤ℤ◌, ◌≤◌, Bool, true, false, cond, ◌&&◌}
+use Rattle.std.proofs.Common.{nat_eq, List, [], ◌∷◌, ◌++◌, get_or, map, Option, Some, None}
 use Rattle.std.specs.List.{Contains, filter, filter_map, list_any}
 use Rattle.std.proofs.lemmas.Int.{ints, by_lt_z}
-use Rattle.std.proofs.lemmas.Bool.{both_ways, cases_Bool, eq-eqb, eqb-true}
+use Rattle.std.proofs.lemmas.Bool.{and_parts, both_ways, cases_Bool, eq-eqb, eqb-true}
 use Rattle.std.proofs.lemmas.Option.{none-some, same_Some}
 use Rattle.domain.specs.Interval.{Interval, joined}
 use Rattle.types.specs.declared.form.Step.{Step}
 use Rattle.meaning.specs.declared.store.Value.{Value}
 use Rattle.meaning.specs.declared.store.Value.TheVariants.{Number}
 use Rattle.meaning.specs.Store.{Environment, Store}
-use Rattle.checker_rows.specs.Rows.{Parts, first_index, no_parts}
+use Rattle.checker_rows.specs.Rows.{Parts, first_index, indexes_of, no_parts}
 use Rattle.checker_state.specs.Bounds.{Bound}
-use Rattle.checker_state.specs.State.{Dead, Facts, Held, Live, Ordered, Span, State, Stretch, Stretched, Table, is_next, range_of, row_at, with_defined}
+use Rattle.checker_state.specs.State.{Dead, Facts, Held, Live, Ordered, Span, State, Stretch, Stretched, Table, is_next, le, range_of, row_at, with_defined}
 use Rattle.checker_state.specs.State.{with_range}
 use Rattle.checker_state.specs.State.{with_row}
 use Rattle.checker_state.specs.Loops.{is_among}
-use Rattle.checker_state.specs.Stores.{Index, Reach, all_stored, at_index, is_none, longer, longer_by, longer_of, longer_span, or_alone, stored, stored_at}
-use Rattle.checker_state.specs.Stores.{with_joined, with_some_element}
-use Rattle.checker_state.specs.Holds.{FactsHold, HasComponent, HeldHolds, IsBound, IsIn, IsOfRow, LieBetween, Moment}
+use Rattle.checker_state.specs.Stores.{Index, Reach, all_stored, at_indexes, is_at, is_none, longer, longer_by, longer_of, longer_span, or_alone, point}
+use Rattle.checker_state.specs.Stores.{stored, stored_at, with_both, with_joined, with_some_element}
+use Rattle.checker_state.specs.Holds.{AreBounds, FactsHold, HasComponent, HeldHolds, IsBound, IsIn, IsOfRow, LieBetween, Moment, Numbers}
 use Rattle.checker_state.specs.Holds.{StateHolds, StretchHolds, component_at, moment, value_at}
-use Rattle.checker_state.specs.Knows.{AreIndexes, AreRows, AreStored, IsIndex, IsLoose, IsLooseIn, IsReach, IsReachApart, IsReached, Knows, Shows, bound_rests}
+use Rattle.checker_state.specs.Knows.{AreIndexes, AreRows, AreStored, BeginWith, IsIndex, IsLoose, IsLooseIn, IsReach, IsReachApart, Knows}
+use Rattle.checker_state.specs.Knows.{Shows}
 use Rattle.checker_state.specs.Laws.{StoresHold}
-use Rattle.checker_state.proofs.Bounds.{IsTold, next-is}
+use Rattle.checker_state.proofs.Bounds.{IsTold, le-is, next-is}
 use Rattle.checker_state.proofs.Changed.{KeepNumbers, bound-stays, held-stays, when-some}
-use Rattle.checker_state.proofs.Given.{first-of}
 use Rattle.checker_state.proofs.Lists.{Each, any-in, at-head, head-or_tail, in-filter, in-filter_map, in-none, in-tail, none-in, with_more-each}
 use Rattle.checker_state.proofs.Ranged.{in-left, in-right}
 use Rattle.checker_state.proofs.Rows.{HoldsWhere, defined-where, lost-where, of_own, range-where, root-own, shown, where-all}
@@ -36,11 +36,11 @@ Pending stores row = (one : ℕ × Interval) × Contains stores one × (one.0 �
 least-cases : (x y : ℤ) → x ≤ℤ (y +ℤ pos 1) → (x ≤ℤ y) ⊎ (x ≡ (y +ℤ pos 1))
 least-cases x y less = by_lt_z x (y +ℤ pos 1) (λ below. inl (omega (arith, ints))) (λ above. inr (omega (arith, ints)))
 
-or_alone-each : (P : Held → Type 0) (row : ℕ) (bound : Bound) (list : List Held) → P (Stretched (at_index row bound)) → Each P list
-    → Each P (or_alone row bound list)
-or_alone-each P row bound [] so each one inside =
-    ⊎_elim (λ same. subst P same so) (λ none. absurd (in-none one none)) (head-or_tail (Stretched (at_index row bound)) one [] inside)
-or_alone-each P row bound (first ∷ list) so each one inside = each one inside
+or_alone-each : (P : Held → Type 0) (row : ℕ) (bounds : List Bound) (list : List Held) → P (Stretched (at_indexes row bounds)) → Each P list
+    → Each P (or_alone row bounds list)
+or_alone-each P row bounds [] so each one inside =
+    ⊎_elim (λ same. subst P same so) (λ none. absurd (in-none one none)) (head-or_tail (Stretched (at_indexes row bounds)) one [] inside)
+or_alone-each P row bounds (first ∷ list) so each one inside = each one inside
 
 -- one of two tests passed
 either-some : (test next : Bool) (one more other : Span) → cond test (Some one) (cond next (Some more) None) ≡ Some other
@@ -49,10 +49,75 @@ either-some true next one more other is = inl (refl, same_Some one other is)
 either-some false true one more other is = inr (refl, same_Some more other is)
 either-some false false one more other is = absurd (none-some other is)
 
-longer-some : (row : ℕ) (found : Option Span) (other : Held) → longer_of row found ≡ Some other
-    → (span : Span) × (found ≡ Some span) × (Stretched (record { row = row; spans = span ∷ [] }) ≡ other)
-longer-some row None other is = absurd (none-some other is)
-longer-some row (Some span) other is = (span, refl, same_Some (Stretched (record { row = row; spans = span ∷ [] })) other is)
+longer-some : (row : ℕ) (front : List Bound) (found : Option Span) (other : Held) → longer_of row front found ≡ Some other
+    → (span : Span) × (found ≡ Some span) × (Stretched (record { row = row; spans = map point front ++ span ∷ [] }) ≡ other)
+longer-some row front None other is = absurd (none-some other is)
+longer-some row front (Some span) other is = (span, refl, same_Some (Stretched (record { row = row; spans = map point front ++ span ∷ [] })) other is)
+
+-- ---- single indexes
+
+-- the numbers of some bounds
+abbrev AreNumbers : Moment → List Bound → List ℤ → Type 0
+AreNumbers m [] [] = Unit {0}
+AreNumbers m [] (number ∷ numbers) = ⊥
+AreNumbers m (bound ∷ bounds) [] = ⊥
+AreNumbers m (bound ∷ bounds) (number ∷ numbers) = IsBound m bound number × AreNumbers m bounds numbers
+
+-- the span of a single number
+abbrev just : ℤ → Numbers
+just number = record { first = number; last = number }
+
+points-are : (m : Moment) (bounds : List Bound) (numbers : List ℤ) → AreNumbers m bounds numbers → AreBounds m (map point bounds) (map just numbers)
+points-are m [] [] are = tt
+points-are m [] (number ∷ numbers) are = absurd are
+points-are m (bound ∷ bounds) [] are = absurd are
+points-are m (bound ∷ bounds) (number ∷ numbers) are = (are.0, are.0, points-are m bounds numbers are.1)
+
+points-then : (m : Moment) (bounds : List Bound) (numbers : List ℤ) (span : Span) (own : Numbers) → AreNumbers m bounds numbers
+    → IsBound m span.first own.first → IsBound m span.last own.last → AreBounds m (map point bounds ++ span ∷ []) (map just numbers ++ own ∷ [])
+points-then m [] [] span own are first last = (first, last, tt)
+points-then m [] (number ∷ numbers) span own are first last = absurd are
+points-then m (bound ∷ bounds) [] span own are first last = absurd are
+points-then m (bound ∷ bounds) (number ∷ numbers) span own are first last = (are.0, are.0, points-then m bounds numbers span own are.1 first last)
+
+-- what lies between single numbers begins with them
+single-begin : (numbers indexes : List ℤ) → LieBetween (map just numbers) indexes → BeginWith numbers indexes
+single-begin [] indexes lie = tt
+single-begin (number ∷ numbers) [] lie = absurd lie
+single-begin (number ∷ numbers) (index ∷ indexes) lie =
+    let low = lie.0 in
+    let high = lie.1 in
+    (let same : index ≡ number = omega (arith, ints, low, high) in same, single-begin numbers indexes lie.2)
+
+-- where indexes begin with single numbers, the index behind them lies in a last span
+record Behind (front : List ℤ) (own : Numbers) (indexes : List ℤ) : Type 0 where
+  index : ℤ
+  low : own.first ≤ℤ index
+  high : index ≤ℤ own.last
+  begin : (number : ℤ) → index ≡ number → BeginWith (front ++ number ∷ []) indexes
+  lie : (other : Numbers) → other.first ≤ℤ index → index ≤ℤ other.last → LieBetween (map just front ++ other ∷ []) indexes
+
+behind-front : (front : List ℤ) (own : Numbers) (indexes : List ℤ) → LieBetween (map just front ++ own ∷ []) indexes → Behind front own indexes
+behind-front [] own [] lie = absurd lie
+behind-front [] own (index ∷ indexes) lie = record {
+  index = index;
+  low = lie.0;
+  high = lie.1;
+  begin = λ number same. (same, tt);
+  lie = λ other low high. (low, high, tt);
+}
+behind-front (number ∷ front) own [] lie = absurd lie
+behind-front (number ∷ front) own (index ∷ indexes) lie =
+    let rest = behind-front front own indexes lie.2 in
+    let low = lie.0 in
+    let high = lie.1 in
+    let same : index ≡ number = omega (arith, ints, low, high) in record {
+      index = rest.index;
+      low = rest.low;
+      high = rest.high;
+      begin = λ number same_one. (same, rest.begin number same_one);
+      lie = λ other from to. (low, high, rest.lie other from to);
+    }
 
 module _ (rows : List Parts) (table : Table) (are : AreRows rows table) (env : Environment) (shows : Shows table.variables env) (aliases : List ℕ)
     (reach : Reach) (stores : List (ℕ × Interval)) (before after : Store) (inner : Each (λ one. table.variables ≤ one.0) stores)
@@ -148,10 +213,11 @@ module _ (rows : List Parts) (table : Table) (are : AreRows rows table) (env : E
         (all, ([], subst (λ (indexes : List Index). AreIndexes env before indexes []) (sym none) tt, tt)))
         (lost-where rows After (Unpassed rest) [] known row holds)
 
-    -- ---- the components of a first index
+    -- ---- the components of first indexes
 
-    module _ (known : Facts) (holds : HoldsWhere rows After (Unpassed rest) [] known) (number : ℤ) (bound : Bound) (at : IsBound After bound number)
-        (reached : (steps : List Step) → IsOfRow rows row steps → first_index steps ≡ Some number → HasComponent rows After row steps) where
+    module _ (known : Facts) (holds : HoldsWhere rows After (Unpassed rest) [] known) (numbers : List ℤ) (bounds : List Bound)
+        (at : AreNumbers After bounds numbers)
+        (reached : (steps : List Step) → IsOfRow rows row steps → BeginWith numbers (indexes_of steps) → HasComponent rows After row steps) where
       abbrev HoldsAfter : Held → Type 0
       HoldsAfter held = HeldHolds rows held After
 
@@ -168,94 +234,173 @@ module _ (rows : List Parts) (table : Table) (are : AreRows rows table) (env : E
         held = holds.held;
       }
 
-      alone-holds : HoldsAfter (Stretched (at_index row bound))
+      alone-holds : HoldsAfter (Stretched (at_indexes row bounds))
       alone-holds = (
-        record { first = number; last = number } ∷ [],
-        (at, at, tt),
-        λ steps index of_row first lie.
-            let all = first-of steps index first in
-            let here = subst (LieBetween (record { first = number; last = number } ∷ [])) all.1 lie in
-            let low = here.0 in
-            let high = here.1 in
-            let same : index ≡ number = omega (arith, ints, low, high) in
-            reached steps of_row (first ∙ ap Some same),
+        map just numbers,
+        points-are After bounds numbers at,
+        λ steps index of_row first lie. reached steps of_row (single-begin numbers (indexes_of steps) lie),
       )
 
-      longer-holds : (span other : Span) (from to : ℤ) → IsBound After span.first from → IsBound After span.last to
-          → ((steps : List Step) (index : ℤ) → IsOfRow rows row steps → first_index steps ≡ Some index → from ≤ℤ index → index ≤ℤ to
-          → HasComponent rows After row steps) → longer_span known bound span ≡ Some other
-          → HoldsAfter (Stretched (record { row = row; spans = other ∷ [] }))
-      longer-holds span other from to from_is to_is each is =
-          ⊎_elim
-          (λ (up : (is_next known span.last bound ≡ true) × (record span { last = bound } ≡ other)).
-          let behind = next-is rows After known told span.last bound to number to_is at up.0 in
-          subst (λ (s : Span). HoldsAfter (Stretched (record { row = row; spans = s ∷ [] }))) up.1
-          (ranged span.first bound from number from_is at (λ steps index of_row first low high.
-          ⊎_elim (λ inside. each steps index of_row first low inside)
-          (λ beyond. reached steps of_row (first ∙ ap Some (beyond ∙ sym behind))) (least-cases index to (omega (arith, ints, behind, high))))))
-          (λ (down : (is_next known bound span.first ≡ true) × (record span { first = bound } ≡ other)).
-          let ahead = next-is rows After known told bound span.first number from at from_is down.0 in
-          subst (λ (s : Span). HoldsAfter (Stretched (record { row = row; spans = s ∷ [] }))) down.1
-          (ranged bound span.last number to at to_is (λ steps index of_row first low high.
-          by_lt_z number index (λ above. each steps index of_row first (omega (arith, ints, ahead, above)) high)
-          (λ below. reached steps of_row (first ∙ ap Some (let same : index ≡ number = omega (arith, ints, low, below) in same))))))
-          (either-some (is_next known span.last bound) (is_next known bound span.first) (record span { last = bound }) (record span { first = bound }) other is)
-        where
-          ranged : (first last : Bound) (low high : ℤ) → IsBound After first low → IsBound After last high
-              → ((steps : List Step) (index : ℤ) → IsOfRow rows row steps → first_index steps ≡ Some index → low ≤ℤ index → index ≤ℤ high
-              → HasComponent rows After row steps)
-              → HoldsAfter (Stretched (record { row = row; spans = record { first = first; last = last } ∷ [] }))
-          ranged first last low high low_is high_is each = (
-            record { first = low; last = high } ∷ [],
-            (low_is, high_is, tt),
-            λ steps index of_row first lie.
-                let all = first-of steps index first in
-                let here = subst (LieBetween (record { first = low; last = high } ∷ [])) all.1 lie in
-                each steps index of_row first here.0 here.1,
-          )
+      -- a last span becomes longer by an index, behind single ones
+      module _ (front : List Bound) (fronts : List ℤ) (front_are : AreNumbers After front fronts) (bound : Bound) (number : ℤ)
+          (bound_is : IsBound After bound number) (same : numbers ≡ fronts ++ number ∷ []) where
+        ranged : (first last : Bound) (low high : ℤ) → IsBound After first low → IsBound After last high
+            → ((steps : List Step) (index : ℤ) → IsOfRow rows row steps → first_index steps ≡ Some index
+            → (there : Behind fronts (record { first = low; last = high }) (indexes_of steps)) → HasComponent rows After row steps)
+            → HoldsAfter (Stretched (record { row = row; spans = map point front ++ record { first = first; last = last } ∷ [] }))
+        ranged first last low high low_is high_is each = (
+          map just fronts ++ record { first = low; last = high } ∷ [],
+          points-then After front fronts (record { first = first; last = last }) (record { first = low; last = high }) front_are low_is high_is,
+          λ steps index of_row first lie.
+              each steps index of_row first (behind-front fronts (record { first = low; last = high }) (indexes_of steps) lie),
+        )
 
-      spans-longer : (spans : List Span) (other : Held) → longer_by known row bound spans ≡ Some other
+        -- the components of the index itself
+        own-has : (steps : List Step) → IsOfRow rows row steps → BeginWith (fronts ++ number ∷ []) (indexes_of steps) → HasComponent rows After row steps
+        own-has steps of_row begin = reached steps of_row (subst (λ (n : List ℤ). BeginWith n (indexes_of steps)) (sym same) begin)
+
+        longer-holds : (span other : Span) (from to : ℤ) → IsBound After span.first from → IsBound After span.last to
+            → ((steps : List Step) (index : ℤ) → IsOfRow rows row steps → first_index steps ≡ Some index
+            → LieBetween (map just fronts ++ record { first = from; last = to } ∷ []) (indexes_of steps) → HasComponent rows After row steps)
+            → longer_span known bound span ≡ Some other
+            → HoldsAfter (Stretched (record { row = row; spans = map point front ++ other ∷ [] }))
+        longer-holds span other from to from_is to_is each is =
+            ⊎_elim
+            (λ (up : (is_next known span.last bound ≡ true) × (record span { last = bound } ≡ other)).
+            let behind = next-is rows After known told span.last bound to number to_is bound_is up.0 in
+            subst (λ (s : Span). HoldsAfter (Stretched (record { row = row; spans = map point front ++ s ∷ [] }))) up.1
+            (ranged span.first bound from number from_is bound_is (λ steps index of_row first there.
+            ⊎_elim (λ inside. each steps index of_row first (there.lie (record { first = from; last = to }) there.low inside))
+            (λ beyond. own-has steps of_row (there.begin number (beyond ∙ sym behind)))
+            (least-cases there.index to (let high = there.high in omega (arith, ints, behind, high))))))
+            (λ (down : (is_next known bound span.first ≡ true) × (record span { first = bound } ≡ other)).
+            let ahead = next-is rows After known told bound span.first number from bound_is from_is down.0 in
+            subst (λ (s : Span). HoldsAfter (Stretched (record { row = row; spans = map point front ++ s ∷ [] }))) down.1
+            (ranged bound span.last number to bound_is to_is (λ steps index of_row first there.
+            by_lt_z number there.index
+            (λ above. each steps index of_row first (there.lie (record { first = from; last = to }) (omega (arith, ints, ahead, above)) there.high))
+            (λ below.
+            let low = there.low in
+            own-has steps of_row (there.begin number (let here : there.index ≡ number = omega (arith, ints, low, below) in here))))))
+            (either-some (is_next known span.last bound) (is_next known bound span.first) (record span { last = bound }) (record span { first = bound }) other
+            is)
+
+      -- one index makes a stretch longer that has one span
+      one-longer : (one : Bound) → bounds ≡ one ∷ [] → (spans : List Span) (other : Held) → longer_by known row (one ∷ []) spans ≡ Some other
           → StretchHolds rows (record { row = row; spans = spans }) After → HoldsAfter other
-      spans-longer [] other is holds_before = absurd (none-some other is)
-      spans-longer (span ∷ next ∷ spans) other is holds_before = absurd (none-some other is)
-      spans-longer (span ∷ []) other is ([], ends, each) = absurd ends
-      spans-longer (span ∷ []) other is (own ∷ one ∷ numbers, ends, each) = absurd ends.2
-      spans-longer (span ∷ []) other is (own ∷ [], ends, each) =
-          let (new, new_is, same) = longer-some row (longer_span known bound span) other is in
-          subst HoldsAfter same
-          (longer-holds span new own.first own.last ends.0 ends.1
-          (λ steps index of_row first low high.
-          each steps index of_row first (subst (LieBetween (own ∷ [])) (sym (first-of steps index first).1) (low, high, tt))) new_is)
+      one-longer one bounds_are [] other is holds_before = absurd (none-some other is)
+      one-longer one bounds_are (span ∷ next ∷ spans) other is holds_before = absurd (none-some other is)
+      one-longer one bounds_are (span ∷ []) other is ([], ends, each) = absurd ends
+      one-longer one bounds_are (span ∷ []) other is (own ∷ two ∷ around, ends, each) = absurd ends.2
+      one-longer one bounds_are (span ∷ []) other is (own ∷ [], ends, each) =
+          let (new, new_is, same) = longer-some row [] (longer_span known one span) other is in
+          by numbers refl (subst (λ (b : List Bound). AreNumbers After b numbers) bounds_are at) new new_is same
+        where
+          by : (all : List ℤ) → numbers ≡ all → AreNumbers After (one ∷ []) all → (new : Span) → longer_span known one span ≡ Some new
+              → Stretched (record { row = row; spans = new ∷ [] }) ≡ other → HoldsAfter other
+          by [] all_are none new new_is same = absurd none
+          by (number ∷ two ∷ all) all_are none new new_is same = absurd none.1
+          by (number ∷ []) all_are (is_number, end) new new_is same =
+              subst HoldsAfter same (longer-holds [] [] tt one number is_number all_are span new own.first own.last ends.0 ends.1 each new_is)
 
-      grown-holds : (held other : Held) → longer known row bound held ≡ Some other → HoldsAfter held → HoldsAfter other
+      -- two make one longer that has two, of which the first is just the first index
+      two-longer : (one two : Bound) → bounds ≡ one ∷ two ∷ [] → (spans : List Span) (other : Held) → longer_by known row (one ∷ two ∷ []) spans ≡ Some other
+          → StretchHolds rows (record { row = row; spans = spans }) After → HoldsAfter other
+      two-longer one two bounds_are [] other is holds_before = absurd (none-some other is)
+      two-longer one two bounds_are (span ∷ []) other is holds_before = absurd (none-some other is)
+      two-longer one two bounds_are (span ∷ within ∷ next ∷ spans) other is holds_before = absurd (none-some other is)
+      two-longer one two bounds_are (span ∷ within ∷ []) other is ([], ends, each) = absurd ends
+      two-longer one two bounds_are (span ∷ within ∷ []) other is (own ∷ [], ends, each) = absurd ends.2
+      two-longer one two bounds_are (span ∷ within ∷ []) other is (own ∷ second ∷ third ∷ around, ends, each) = absurd ends.2.2
+      two-longer one two bounds_are (span ∷ within ∷ []) other is (own ∷ second ∷ [], ends, each) =
+          let parts = when-some (is_at known one span) (longer_of row (one ∷ []) (longer_span known two within)) other is in
+          let (new, new_is, same) = longer-some row (one ∷ []) (longer_span known two within) other parts.1 in
+          by numbers refl (subst (λ (b : List Bound). AreNumbers After b numbers) bounds_are at) parts.0 new new_is same
+        where
+          widened : (indexes : List ℤ) (number : ℤ) → own.first ≤ℤ number → number ≤ℤ own.last
+              → LieBetween (just number ∷ record { first = second.first; last = second.last } ∷ []) indexes → LieBetween (own ∷ second ∷ []) indexes
+          widened [] number low high lie = absurd lie
+          widened (index ∷ indexes) number low high lie =
+              let from = lie.0 in
+              let to = lie.1 in
+              (omega (arith, ints, low, from), omega (arith, ints, to, high), lie.2)
+
+          by : (all : List ℤ) → numbers ≡ all → AreNumbers After (one ∷ two ∷ []) all → is_at known one span ≡ true → (new : Span)
+              → longer_span known two within ≡ Some new → Stretched (record { row = row; spans = point one ∷ new ∷ [] }) ≡ other → HoldsAfter other
+          by [] all_are none at_one new new_is same = absurd none
+          by (number ∷ []) all_are none at_one new new_is same = absurd none.1
+          by (number ∷ next ∷ third ∷ all) all_are none at_one new new_is same = absurd none.1.1
+          by (number ∷ next ∷ []) all_are (is_number, is_next_number) at_one new new_is same =
+              let both =
+              and_parts (le known span.first one && le known one span.first) (le known span.last one && le known one span.last) at_one in
+              let low = and_parts (le known span.first one) (le known one span.first) both.0 in
+              let high = and_parts (le known span.last one) (le known one span.last) both.1 in
+              let first_low = le-is rows After known told span.first one own.first number ends.0 is_number low.0 in
+              let last_high = le-is rows After known told one span.last number own.last is_number ends.1 high.1 in
+              subst HoldsAfter same
+              (longer-holds (one ∷ []) (number ∷ []) (is_number, tt) two next is_next_number.0 all_are within new second.first second.last ends.2.0 ends.2.1
+              (λ steps index of_row first lie. each steps index of_row first (widened (indexes_of steps) number first_low last_high lie)) new_is)
+
+      spans-longer : (indexes : List Bound) → bounds ≡ indexes → (spans : List Span) (other : Held) → longer_by known row indexes spans ≡ Some other
+          → StretchHolds rows (record { row = row; spans = spans }) After → HoldsAfter other
+      spans-longer [] are spans other is holds_before = absurd (none-some other is)
+      spans-longer (one ∷ []) are spans other is holds_before = one-longer one are spans other is holds_before
+      spans-longer (one ∷ two ∷ []) are spans other is holds_before = two-longer one two are spans other is holds_before
+      spans-longer (one ∷ two ∷ third ∷ more) are spans other is holds_before = absurd (none-some other is)
+
+      grown-holds : (held other : Held) → longer known row bounds held ≡ Some other → HoldsAfter held → HoldsAfter other
       grown-holds (Ordered root by k) other is so = absurd (none-some other is)
       grown-holds (Stretched stretch) other is so =
-          let parts = when-some (nat_eq stretch.row row) (longer_by known row bound stretch.spans) other is in
-          spans-longer stretch.spans other parts.1
+          let parts = when-some (nat_eq stretch.row row) (longer_by known row bounds stretch.spans) other is in
+          spans-longer bounds refl stretch.spans other parts.1
           (subst (λ r. StretchHolds rows (record { row = r; spans = stretch.spans }) After) (eqb-true stretch.row row parts.0) so)
 
       element-holds : HoldsWhere rows After (Unpassed rest) [] (record known {
-        held = Rattle.checker_state.specs.State.with_more (or_alone row bound (filter_map (longer known row bound) known.held))
-            (filter (λ held. is_none (longer known row bound held)) known.held);
+        held = Rattle.checker_state.specs.State.with_more (or_alone row bounds (filter_map (longer known row bounds) known.held))
+            (filter (λ held. is_none (longer known row bounds held)) known.held);
       })
       element-holds = record {
         count = holds.count;
         each = holds.each;
-        held = with_more-each HoldsAfter (or_alone row bound (filter_map (longer known row bound) known.held))
-            (filter (λ held. is_none (longer known row bound held)) known.held)
-            (or_alone-each HoldsAfter row bound (filter_map (longer known row bound) known.held) alone-holds
+        held = with_more-each HoldsAfter (or_alone row bounds (filter_map (longer known row bounds) known.held))
+            (filter (λ held. is_none (longer known row bounds held)) known.held)
+            (or_alone-each HoldsAfter row bounds (filter_map (longer known row bounds) known.held) alone-holds
             (λ other inside.
-            let (old, listed, became) = in-filter_map (longer known row bound) known.held other inside in
+            let (old, listed, became) = in-filter_map (longer known row bounds) known.held other inside in
             grown-holds old other became (holds.held old listed)))
-            (λ other inside. holds.held other (in-filter (λ held. is_none (longer known row bound held)) known.held other inside).0);
+            (λ other inside. holds.held other (in-filter (λ held. is_none (longer known row bounds held)) known.held other inside).0);
       }
 
+    -- components are reached whose first indexes are these numbers
+    abbrev AreAllReached : List ℤ → Type 0
+    AreAllReached numbers =
+        (steps : List Step) → IsOfRow rows row steps → BeginWith numbers (indexes_of steps) → HasComponent rows After row steps
+
     element-left : (state : State) (number : ℤ) (form : Option Bound) → ((bound : Bound) → form ≡ Some bound → IsBound After bound number)
-        → ((steps : List Step) → IsOfRow rows row steps → first_index steps ≡ Some number → HasComponent rows After row steps) → StateWhere rest state
-        → StateWhere rest (with_some_element row form state)
+        → AreAllReached (number ∷ []) → StateWhere rest state → StateWhere rest (with_some_element row form state)
     element-left state number None at reached holds = holds
     element-left Dead number (Some bound) at reached holds = absurd holds
-    element-left (Live known) number (Some bound) at reached holds = element-holds known holds number bound (at bound refl) reached
+    element-left (Live known) number (Some bound) at reached holds =
+        element-holds known holds (number ∷ []) (bound ∷ []) (at bound refl, tt) reached
+
+    both-left : (state : State) (number next : ℤ) (form inner : Option Bound) → ((bound : Bound) → form ≡ Some bound → IsBound After bound number)
+        → ((bound : Bound) → inner ≡ Some bound → IsBound After bound next) → AreAllReached (number ∷ next ∷ []) → StateWhere rest state
+        → StateWhere rest (with_both row form inner state)
+    both-left state number next None inner at also reached holds = holds
+    both-left state number next (Some bound) None at also reached holds = holds
+    both-left Dead number next (Some bound) (Some other) at also reached holds = absurd holds
+    both-left (Live known) number next (Some bound) (Some other) at also reached holds =
+        element-holds known holds (number ∷ next ∷ []) (bound ∷ other ∷ []) (at bound refl, (also other refl, tt)) reached
+
+    -- the forms of the indexes of a reach are their numbers behind the stores too
+    module _ (all : reach.is_all ≡ true) (apart : IsReachApart aliases reach) where
+      form-stays : (index : Index) → Contains reach.indexes index → (number : ℤ) → IsIndex env before index number → (bound : Bound)
+          → index.form ≡ Some bound → IsBound After bound number
+      form-stays index listed number is_index bound form_is =
+          bound-stays Before After aliases keep bound number (apart all index listed bound form_is) (is_index bound form_is)
+
+      all-reached : (numbers : List ℤ) → AreIndexes env before reach.indexes numbers → AreAllReached numbers
+      all-reached numbers are_indexes steps of_row begin = are_stored.reached one steps listed of_row (all, (numbers, are_indexes, begin))
 
     -- the number of an index whose components are all reached
     index-left : (index : Index) → reach.is_all ≡ true → reach.indexes ≡ index ∷ [] → IsReach env before reach → IsReachApart aliases reach → (state : State)
@@ -269,19 +414,28 @@ module _ (rows : List Parts) (table : Table) (are : AreRows rows table) (env : E
         by (number ∷ two ∷ numbers) none = absurd none.1
         by (number ∷ []) (is_index, end) =
             element-left state number index.form
-            (λ bound form_is.
-            bound-stays Before After aliases keep bound number
-            (apart all index (subst (λ (indexes : List Index). Contains indexes index) (sym single) (at-head index [])) bound form_is)
-            (is_index bound form_is))
-            (λ steps of_row first.
-            are_stored.reached one steps listed of_row (
-              all,
-              (
-                number ∷ [],
-                subst (λ (indexes : List Index). AreIndexes env before indexes (number ∷ [])) (sym single) (is_index, tt),
-                subst (Rattle.checker_state.specs.Knows.BeginWith (number ∷ [])) (sym (first-of steps number first).1) (refl, tt),
-              ),
-            )) holds
+            (form-stays all apart index (subst (λ (indexes : List Index). Contains indexes index) (sym single) (at-head index [])) number is_index)
+            (all-reached all apart (number ∷ []) (subst (λ (indexes : List Index). AreIndexes env before indexes (number ∷ [])) (sym single) (is_index, tt)))
+            holds
+
+    -- those of two
+    indexes-left : (index other : Index) → reach.is_all ≡ true → reach.indexes ≡ index ∷ other ∷ [] → IsReach env before reach → IsReachApart aliases reach
+        → (state : State) → StateWhere rest state → StateWhere rest (with_both row index.form other.form state)
+    indexes-left index other all double is_reach apart state holds =
+        let (numbers, are_indexes) = is_reach all in
+        by numbers (subst (λ (indexes : List Index). AreIndexes env before indexes numbers) double are_indexes)
+      where
+        by : (numbers : List ℤ) → AreIndexes env before (index ∷ other ∷ []) numbers → StateWhere rest (with_both row index.form other.form state)
+        by [] none = absurd none
+        by (number ∷ []) none = absurd none.1
+        by (number ∷ next ∷ third ∷ numbers) none = absurd none.1.1
+        by (number ∷ next ∷ []) (is_index, rest) =
+            both-left state number next index.form other.form
+            (form-stays all apart index (subst (λ (indexes : List Index). Contains indexes index) (sym double) (at-head index (other ∷ []))) number is_index)
+            (form-stays all apart other
+            (subst (λ (indexes : List Index). Contains indexes other) (sym double) (in-tail index other (other ∷ []) (at-head other []))) next rest.0)
+            (all-reached all apart (number ∷ next ∷ [])
+            (subst (λ (indexes : List Index). AreIndexes env before indexes (number ∷ next ∷ [])) (sym double) (is_index, (rest.0, tt)))) holds
 
     stored-left : (is_all : Bool) (indexes : List Index) → reach.is_all ≡ is_all → reach.indexes ≡ indexes → IsReach env before reach
         → IsReachApart aliases reach → (state : State) → StateWhere (one ∷ rest) state → StateWhere rest (stored_at is_all indexes row one.1 state)
@@ -291,7 +445,9 @@ module _ (rows : List Parts) (table : Table) (are : AreRows rows table) (env : E
         (range-left one.1 state (λ steps v of_row there. are_stored.all one steps v all_is indexes_are listed of_row there) holds)
     stored-left true (index ∷ []) all_is indexes_are is_reach apart state holds =
         index-left index all_is indexes_are is_reach apart (with_joined row one.1 state) (joined-left state holds)
-    stored-left true (index ∷ two ∷ indexes) all_is indexes_are is_reach apart state holds = joined-left state holds
+    stored-left true (index ∷ two ∷ []) all_is indexes_are is_reach apart state holds =
+        indexes-left index two all_is indexes_are is_reach apart (with_joined row one.1 state) (joined-left state holds)
+    stored-left true (index ∷ two ∷ third ∷ indexes) all_is indexes_are is_reach apart state holds = joined-left state holds
 
   -- ---- all stores
 

@@ -3,7 +3,8 @@
 -- variables, and stretches of rows that are defined; and which facts that gives. It does not say how such a state comes
 -- about, nor what it means for a run.
 use Rattle.std.specs.Prelude.{ℕ, ℤ, pos, ◌+ℤ◌, int_le, Bool, true, false, not, ◌&&◌, ◌||◌, List, [], ◌∷◌, Option}
-use Rattle.std.specs.Prelude.{Some, None, if◌then◌else◌, drop, length, nat_eq, nat_lt, slice_index_or, slice_set}
+use Rattle.std.specs.Prelude.{Some, None, if◌then◌else◌, drop, length, map, nat_eq, nat_lt, slice_index_or, slice_set}
+use Rattle.std.specs.Prelude.{take}
 use Rattle.std.specs.List.{list_any}
 use Rattle.std.specs.Cmp.Lexicographic.{slice_cmp}
 use Rattle.std.specs.Ordering.{int_cmp, nat_cmp, ordering_then}
@@ -13,6 +14,8 @@ use Rattle.types.specs.declared.form.OrdinalRange.{OrdinalRange}
 use Rattle.typed_tree.specs.declared.tree.Tree.{Tree}
 use Rattle.checker_rows.specs.Rows.{indexes_at, is_ordinal_variable, rows_of}
 use Rattle.domain.specs.Interval.{Interval, is_included, is_vacant, vacant}
+use Rattle.domain.specs.Versions.{has}
+use Rattle.domain.specs.declared.versions.Extension.TheVariants.{Blocks}
 use Rattle.domain.specs.declared.versions.Version.{Version}
 use Rattle.checker_state.specs.Bounds.{Bound, bound_order, constant, is_at_most, is_variable, plus, raised_bound}
 
@@ -99,7 +102,7 @@ with_value root range state = with_defined root (with_range root range state)
 abbrev pub unless_empty : Interval → State → State
 unless_empty range state = if is_vacant range then Dead else state
 
--- ---- the order of what is held: that of a certificate's facts, by row numbers
+-- ---- the order of what is held: stretches by their rows and their spans, then orders by their variables
 
 abbrev pub span_order : Span → Span → Ordering
 span_order a b = ordering_then (bound_order a.first b.first) (bound_order a.last b.last)
@@ -178,29 +181,77 @@ is_next known a b = lies_below known a b && le known b (raised_bound (pos 1) a)
 abbrev pub is_empty : Facts → Span → Bool
 is_empty known span = lies_below known span.last span.first
 
--- a span has all that another has
-abbrev pub has_span : Facts → (wanted held : Span) → Bool
-has_span known wanted held = le known held.first wanted.first && le known wanted.last held.last
+-- what is asked of a span: which bounds are known to be at most its first one, and which at least its last one
+pub record Wanted : Type 0 where
+  pub begins : Bound → Bool
+  pub ends : Bound → Bool
+
+-- what is asked of the span between two bounds
+abbrev pub wanted_of : Facts → Span → Wanted
+wanted_of known span = record { begins = λ bound. le known bound span.first; ends = λ bound. le known span.last bound }
+
+-- a span has all that is wanted
+abbrev pub has_span : Wanted → Span → Bool
+has_span wanted held = wanted.begins held.first && wanted.ends held.last
 
 -- the span of all values of an index
 abbrev pub all_indexes : OrdinalRange → Span
 all_indexes range = record { first = constant range.first; last = constant range.last }
 
--- spans have all that others have, of indexes that are of these values: an index behind the last of them is any, so
--- where what is wanted ends and what is held goes on, that has to have all values of the index
-abbrev pub have_spans : Facts → List OrdinalRange → (wanted held : List Span) → Bool
+-- spans have all that is wanted, of indexes that are of these values: an index behind the last of them is any, so where
+-- what is wanted ends and what is held goes on, that has to have all values of the index
+abbrev pub have_spans : Facts → List OrdinalRange → List Wanted → (held : List Span) → Bool
 have_spans known indexes wanted [] = true
 have_spans known indexes (one ∷ wanted) (span ∷ held) =
-    has_span known one span && have_spans known (drop 1 indexes) wanted held
+    has_span one span && have_spans known (drop 1 indexes) wanted held
 have_spans known [] [] (span ∷ held) = false
 have_spans known (range ∷ indexes) [] (span ∷ held) =
-    has_span known (all_indexes range) span && have_spans known indexes [] held
+    has_span (wanted_of known (all_indexes range)) span && have_spans known indexes [] held
 
--- what is held has all of a stretch of a row whose indexes are of these values
-abbrev pub covers : Facts → List OrdinalRange → Stretch → Held → Bool
-covers known indexes wanted (Stretched stretch) =
-    nat_eq wanted.row stretch.row && have_spans known indexes wanted.spans stretch.spans
-covers known indexes wanted (Ordered root other number) = false
+-- spans begin in time, and behind the first of them have all that is wanted
+abbrev pub begin_in_time : Facts → List OrdinalRange → List Wanted → (held : List Span) → Bool
+begin_in_time known indexes (one ∷ wanted) (span ∷ held) =
+    one.begins span.first && have_spans known (drop 1 indexes) wanted held
+begin_in_time known indexes wanted held = false
+
+-- other spans go on from these to the wanted end: the first of them begins at the latest behind the last index of these
+abbrev pub go_on : Facts → List OrdinalRange → List Wanted → (held next : List Span) → Bool
+go_on known indexes (one ∷ wanted) (span ∷ held) (other ∷ next) =
+    le known other.first (raised_bound (pos 1) span.last)
+    && (one.ends other.last && have_spans known (drop 1 indexes) wanted next)
+go_on known indexes wanted held next = false
+
+-- what is held of a row whose indexes are of these values
+module _ (known : Facts) (indexes : List OrdinalRange) (row : ℕ) (wanted : List Wanted) where
+  -- it has all that is wanted
+  abbrev pub covers : Held → Bool
+  covers (Stretched stretch) = nat_eq row stretch.row && have_spans known indexes wanted stretch.spans
+  covers (Ordered root other number) = false
+
+  -- it has it from the beginning on
+  abbrev pub begins : Held → Bool
+  begins (Stretched stretch) = nat_eq row stretch.row && begin_in_time known indexes wanted stretch.spans
+  begins (Ordered root other number) = false
+
+  -- another has the rest to the end
+  abbrev pub joins : (one other : Held) → Bool
+  joins (Stretched one) (Stretched other) = nat_eq row other.row && go_on known indexes wanted one.spans other.spans
+  joins one other = false
+
+  -- one has it all, or two have it together
+  abbrev pub is_covered : Bool
+  is_covered = list_any covers known.held
+
+  abbrev pub is_joined : Bool
+  is_joined = list_any (λ one. begins one && list_any (joins one) known.held) known.held
+
+-- it has all that is wanted; in a version with blocks it does also where one or two together have the first of the
+-- wanted spans, with any index behind it
+abbrev pub is_had : Facts → List OrdinalRange → ℕ → List Wanted → Bool
+is_had known indexes row wanted =
+    is_covered known indexes row wanted
+    || (has known.rules Blocks
+    && (is_covered known indexes row (take 1 wanted) || is_joined known indexes row (take 1 wanted)))
 
 -- the stretch of all first indexes of a row
 abbrev pub all_of : ℕ → OrdinalRange → Stretch
@@ -210,7 +261,7 @@ all_of row range = record { row = row; spans = all_indexes range ∷ [] }
 abbrev pub is_spanned : Facts → ℕ → List OrdinalRange → Bool
 is_spanned known row [] = false
 is_spanned known row (range ∷ indexes) =
-    list_any (covers known (range ∷ indexes) (all_of row range)) known.held
+    is_covered known (range ∷ indexes) row (wanted_of known (all_indexes range) ∷ [])
 
 -- what is told of the rows of a program: how many variables have one of their own, which come first; which of these
 -- variables are ordinals; and the values of each index on the way to the components of each row, the first one first
@@ -260,7 +311,8 @@ module _ (table : Table) where
   gives_stretch known stretch =
       have_values (Live known) stretch.spans
       && (list_any (is_empty known) stretch.spans
-      || (is_whole known stretch.row || list_any (covers known (table.indexes stretch.row) stretch) known.held))
+      || (is_whole known stretch.row
+      || is_had known (table.indexes stretch.row) stretch.row (map (wanted_of known) stretch.spans)))
 
   -- what is known gives what may be held: of an order that both variables are defined, and that the first is at most
   -- the other plus the number

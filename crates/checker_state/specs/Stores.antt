@@ -1,14 +1,15 @@
 -- What is known after values were stored to components of structured variables (ISO 7185:1990, 6.4.3, 6.5.3). It does
 -- not say which components an access leads to.
-use Rattle.std.specs.Prelude.{ℕ, ℤ, Bool, true, false, ◌||◌, List, [], ◌∷◌, Option, Some, None, if◌then◌else◌, filter}
-use Rattle.std.specs.Prelude.{nat_eq, slice_get}
+use Rattle.std.specs.Prelude.{ℕ, ℤ, Bool, true, false, ◌&&◌, ◌||◌, List, [], ◌∷◌, ◌++◌, Option, Some, None}
+use Rattle.std.specs.Prelude.{if◌then◌else◌, filter, map, nat_eq}
 use Rattle.std.specs.List.{filter_map}
 use Rattle.types.specs.declared.form.OrdinalRange.{OrdinalRange}
 use Rattle.domain.specs.Interval.{Interval, joined}
 use Rattle.checker_state.specs.Bounds.{Bound, constant}
+use Rattle.checker_state.specs.Changes.{span_between}
 use Rattle.checker_state.specs.State.{Claim, Dead, Defined, Facts, Held, Holds, Live, Ordered, Span, State, Stretch}
 use Rattle.checker_state.specs.State.{Stretched, Table, all_of, is_dead, is_next, range_of, state_gives}
-use Rattle.checker_state.specs.State.{with_defined, with_more, with_range}
+use Rattle.checker_state.specs.State.{le, with_defined, with_more, with_range}
 use Rattle.meaning.specs.Integers.{is_integer_number}
 
 -- an index by its value: its form, and where it lies
@@ -35,9 +36,13 @@ is_entire reach = is_entire_by reach.is_all reach.indexes
 
 -- ---- what is defined
 
--- the stretch of a single first index
-abbrev pub at_index : ℕ → Bound → Stretch
-at_index row index = record { row = row; spans = record { first = index; last = index } ∷ [] }
+-- the span of a single index
+abbrev pub point : Bound → Span
+point index = record { first = index; last = index }
+
+-- the stretch of single first indexes
+abbrev pub at_indexes : ℕ → List Bound → Stretch
+at_indexes row indexes = record { row = row; spans = map point indexes }
 
 -- that each component of a row is defined: of one with indexes, all first indexes are
 abbrev pub all_of_row : Option OrdinalRange → ℕ → Claim
@@ -48,31 +53,47 @@ all_of_row (Some range) row = Holds (Stretched (all_of row range))
 abbrev pub bound_of_number : ℤ → Option Bound
 bound_of_number n = if is_integer_number n then Some (constant n) else None
 
-abbrev pub stretch_between : ℕ → Option Bound → Option Bound → Option Stretch
-stretch_between row (Some first) (Some last) =
-    Some (record { row = row; spans = record { first = first; last = last } ∷ [] })
-stretch_between row first last = None
+-- the span of a form, and that of a range, if its ends are numbers that bounds have
+abbrev pub form_span : Option Bound → Option Span
+form_span None = None
+form_span (Some form) = Some (point form)
 
--- the stretch of first indexes in a range, if its ends are numbers that bounds have
-abbrev pub range_stretch : ℕ → Interval → Option Stretch
-range_stretch row range = stretch_between row (bound_of_number range.first) (bound_of_number range.last)
+abbrev pub range_span : Interval → Option Span
+range_span range = span_between (bound_of_number range.first) (bound_of_number range.last)
 
 module _ (table : Table) where
   -- the components of a first index are defined, by its form or by where it lies
-  abbrev pub gives_some : State → Option Stretch → Bool
-  gives_some state None = is_dead state
-  gives_some state (Some stretch) = state_gives table state (Holds (Stretched stretch))
+  abbrev pub gives_some : State → ℕ → Option Span → Bool
+  gives_some state row None = is_dead state
+  gives_some state row (Some span) =
+      state_gives table state (Holds (Stretched (record { row = row; spans = span ∷ [] })))
 
   abbrev pub gives_form : State → ℕ → Option Bound → Bool
   gives_form state row None = false
-  gives_form state row (Some form) = state_gives table state (Holds (Stretched (at_index row form)))
+  gives_form state row (Some form) = state_gives table state (Holds (Stretched (at_indexes row (form ∷ []))))
 
   abbrev pub gives_index : State → ℕ → Index → Bool
-  gives_index state row one = gives_form state row one.form || gives_some state (range_stretch row one.range)
+  gives_index state row one = gives_form state row one.form || gives_some state row (range_span one.range)
 
+  -- those of two, each by its form or by where it lies
+  abbrev pub gives_block : State → ℕ → Option Span → Option Span → Bool
+  gives_block state row (Some span) (Some inner) =
+      state_gives table state (Holds (Stretched (record { row = row; spans = span ∷ inner ∷ [] })))
+  gives_block state row span inner = false
+
+  abbrev pub gives_inner : State → ℕ → Option Span → Index → Bool
+  gives_inner state row span two =
+      gives_block state row span (form_span two.form) || gives_block state row span (range_span two.range)
+
+  abbrev pub gives_both : State → ℕ → Index → Index → Bool
+  gives_both state row one two =
+      gives_inner state row (form_span one.form) two || gives_inner state row (range_span one.range) two
+
+  -- all of a row is asked of the row: two stretches that meet don't give it together
   abbrev pub gives_indexes : State → ℕ → List Index → Bool
-  gives_indexes state row [] = state_gives table state (all_of_row (slice_get (table.indexes row) 0) row)
-  gives_indexes state row (one ∷ more) = gives_index state row one
+  gives_indexes state row [] = state_gives table state (Defined row)
+  gives_indexes state row (one ∷ []) = gives_index state row one
+  gives_indexes state row (one ∷ two ∷ more) = gives_index state row one || gives_both state row one two
 
   -- what an access reaches in a row is defined
   abbrev pub gives_reached : State → Reach → ℕ → Bool
@@ -86,42 +107,54 @@ longer_span known one span =
     if is_next known span.last one then Some (record span { last = one })
     else if is_next known one span.first then Some (record span { first = one }) else None
 
-abbrev pub longer_of : ℕ → Option Span → Option Held
-longer_of row None = None
-longer_of row (Some span) = Some (Stretched (record { row = row; spans = span ∷ [] }))
+-- a span has just one index
+abbrev pub is_at : Facts → Bound → Span → Bool
+is_at known one span =
+    (le known span.first one && le known one span.first) && (le known span.last one && le known one span.last)
 
--- a stretch of first indexes that another makes longer
-abbrev pub longer_by : Facts → ℕ → Bound → List Span → Option Held
-longer_by known row one (span ∷ []) = longer_of row (longer_span known one span)
-longer_by known row one spans = None
+-- a stretch of single indexes and of a last span
+abbrev pub longer_of : ℕ → List Bound → Option Span → Option Held
+longer_of row front None = None
+longer_of row front (Some span) = Some (Stretched (record { row = row; spans = map point front ++ span ∷ [] }))
 
--- what is held of a row that a first index makes longer
-abbrev pub longer : Facts → ℕ → Bound → Held → Option Held
-longer known row one (Stretched stretch) =
-    if nat_eq stretch.row row then longer_by known row one stretch.spans else None
-longer known row one (Ordered root other number) = None
+-- a stretch of so many spans that others make longer: of two spans the first has to be just the first index
+abbrev pub longer_by : Facts → ℕ → List Bound → List Span → Option Held
+longer_by known row (one ∷ []) (span ∷ []) = longer_of row [] (longer_span known one span)
+longer_by known row (one ∷ two ∷ []) (span ∷ inner ∷ []) =
+    if is_at known one span then longer_of row (one ∷ []) (longer_span known two inner) else None
+longer_by known row indexes spans = None
+
+-- what is held of a row that first indexes make longer
+abbrev pub longer : Facts → ℕ → List Bound → Held → Option Held
+longer known row indexes (Stretched stretch) =
+    if nat_eq stretch.row row then longer_by known row indexes stretch.spans else None
+longer known row indexes (Ordered root other number) = None
 
 abbrev pub is_none : Option Held → Bool
 is_none None = true
 is_none (Some held) = false
 
--- stretches that became longer, or else that of the index alone
-abbrev pub or_alone : ℕ → Bound → List Held → List Held
-or_alone row one [] = Stretched (at_index row one) ∷ []
-or_alone row one (held ∷ more) = held ∷ more
+-- stretches that became longer, or else that of the indexes alone
+abbrev pub or_alone : ℕ → List Bound → List Held → List Held
+or_alone row indexes [] = Stretched (at_indexes row indexes) ∷ []
+or_alone row indexes (held ∷ more) = held ∷ more
 
--- the components of a first index are defined from here on: each stretch that it makes longer becomes so, or else there
--- is that of the index alone
-abbrev pub with_element : ℕ → Bound → State → State
-with_element row one Dead = Dead
-with_element row one (Live known) = Live (record known {
-  held = with_more (or_alone row one (filter_map (longer known row one) known.held))
-      (filter (λ held. is_none (longer known row one held)) known.held);
+-- the components of first indexes, one or two, are defined from here on: each stretch that they make longer becomes so,
+-- or else there is that of the indexes alone
+abbrev pub with_element : ℕ → List Bound → State → State
+with_element row indexes Dead = Dead
+with_element row indexes (Live known) = Live (record known {
+  held = with_more (or_alone row indexes (filter_map (longer known row indexes) known.held))
+      (filter (λ held. is_none (longer known row indexes held)) known.held);
 })
 
 abbrev pub with_some_element : ℕ → Option Bound → State → State
 with_some_element row None state = state
-with_some_element row (Some one) state = with_element row one state
+with_some_element row (Some one) state = with_element row (one ∷ []) state
+
+abbrev pub with_both : ℕ → Option Bound → Option Bound → State → State
+with_both row (Some one) (Some two) state = with_element row (one ∷ two ∷ []) state
+with_both row one two state = state
 
 -- components of a row may have a value of a range from here on
 abbrev pub with_joined : ℕ → Interval → State → State
@@ -131,6 +164,7 @@ with_joined row range state = with_range row (joined (range_of state row) range)
 abbrev pub stored_at : Bool → List Index → ℕ → Interval → State → State
 stored_at true [] row range state = with_defined row (with_range row range state)
 stored_at true (one ∷ []) row range state = with_some_element row one.form (with_joined row range state)
+stored_at true (one ∷ two ∷ []) row range state = with_both row one.form two.form (with_joined row range state)
 stored_at is_all indexes row range state = with_joined row range state
 
 -- values of a range were stored to what an access reaches in a row

@@ -6,6 +6,7 @@ use Rattle.checker_state.specs.declared.bound.Rebinding.{Rebinding}
 use Rattle.checker_state.specs.declared.bound.Rebinding.TheVariants as rebinding
 use Rattle.checker_state.specs.declared.ends.Ends.{Ends}
 use Rattle.checker_state.specs.declared.term.Term.{Term}
+use Rattle.checker_state.specs.declared.held.Point.{Point as KeptPoint}
 use Rattle.checker_state.specs.declared.held.Span.{Span as KeptSpan}
 use Rattle.checker_state.specs.declared.held.Stretch.{Stretch as KeptStretch}
 use Rattle.checker_state.specs.declared.held.Order.{Order as KeptOrder}
@@ -53,6 +54,14 @@ abbrev pub said_span_form : Option KeptSpan → Option Span
 said_span_form None = None
 said_span_form (Some span) = Some (said_span span)
 
+-- the indexes of a point
+abbrev pub inner_bounds : Option KeptBound → List Bound
+inner_bounds None = []
+inner_bounds (Some bound) = said_bound bound ∷ []
+
+abbrev pub said_point : KeptPoint → List Bound
+said_point point = said_bound point.index ∷ inner_bounds point.inner
+
 -- the spans behind the first
 abbrev pub inner_spans : Option KeptSpan → List Span
 inner_spans None = []
@@ -63,10 +72,6 @@ said_spans stretch = said_span stretch.span ∷ inner_spans stretch.inner
 
 abbrev pub said_stretch : KeptStretch → Stretch
 said_stretch stretch = record { row = stretch.row; spans = said_spans stretch }
-
-abbrev pub said_stretch_form : Option KeptStretch → Option Stretch
-said_stretch_form None = None
-said_stretch_form (Some stretch) = Some (said_stretch stretch)
 
 abbrev pub said_stretched : Option KeptStretch → Option Held
 said_stretched None = None

@@ -3,14 +3,14 @@ ghost use Rattle.std.specs.Bool.{OnTrue};
 ghost use Rattle.std.specs.Cmp.Lexicographic.{slice_cmp};
 ghost use Rattle.checker_state.specs.Bounds.{plus};
 ghost use Rattle.checker_state.specs.Changes.{all_with_bounds, changed_order, in_place, ordered, raised, raised_number};
-ghost use Rattle.checker_state.specs.Changes.{stretch_of, unless_resting, with_bounds};
+ghost use Rattle.checker_state.specs.Changes.{span_between, stretch_of, unless_resting, with_bounds};
 ghost use Rattle.checker_state.specs.State.{Ordered, Stretched, all_indexes, all_of, held_order, says_at_most};
 ghost use Rattle.checker_state.specs.State.{span_order};
-ghost use Rattle.checker_state.specs.Stores.{at_index, stretch_between};
+ghost use Rattle.checker_state.specs.Stores.{at_indexes, point};
 ghost use Rattle.checker_state.specs.Terms.{IsWithin};
 ghost use Rattle.checker_state.specs.View.{bound_by, held_by, inner_spans, said_bound, said_form, said_held};
-ghost use Rattle.checker_state.specs.View.{said_more, said_ordered, said_span, said_span_form, said_spans};
-ghost use Rattle.checker_state.specs.View.{said_stretch, said_stretch_form, said_stretched, said_term};
+ghost use Rattle.checker_state.specs.View.{said_more, said_ordered, said_point, said_span, said_span_form, said_spans};
+ghost use Rattle.checker_state.specs.View.{said_stretch, said_stretched, said_term};
 
 use crate::bound::{Bound, Rebinding};
 use crate::term::Term;
@@ -23,6 +23,13 @@ use types::OrdinalRange;
 pub struct Span {
     pub first: Bound,
     pub last: Bound,
+}
+
+/// An index, and perhaps the one behind it.
+#[derive(Clone, Copy)]
+pub struct Point {
+    pub index: Bound,
+    pub inner: Option<Bound>,
 }
 
 /// Components of a row: those whose first index lies in a span, and whose second lies in the inner one, if there is
@@ -73,6 +80,25 @@ impl Span {
         }
     }
 
+    /// That of a single index.
+    pub fn at(index: Bound) -> Span
+        ensures { said_span result ≡ point (said_bound index) }
+    {
+        Span {
+            first: index,
+            last: index,
+        }
+    }
+
+    /// That between two bounds, if both are there.
+    pub fn between(first: Option<Bound>, last: Option<Bound>) -> Option<Span>
+        ensures { said_span_form result ≡ span_between (said_form first) (said_form last) }
+    {
+        let first = first?;
+        let last = last?;
+        Some(Span { first, last })
+    }
+
     // What becomes of it.
     fn by(self, how: Rebinding) -> Option<Span>
         ensures { said_span_form result ≡ with_bounds (bound_by how) (said_span self) }
@@ -92,17 +118,17 @@ impl Span {
 }
 
 impl Stretch {
-    /// That of a single first index.
-    pub fn at(row: usize, index: Bound) -> Stretch
-        ensures { said_stretch result ≡ at_index row (said_bound index) }
+    /// That of single indexes.
+    pub fn at(row: usize, point: Point) -> Stretch
+        ensures { said_stretch result ≡ at_indexes row (said_point point) }
     {
         Stretch {
             row,
-            span: Span {
-                first: index,
-                last: index,
+            span: Span::at(point.index),
+            inner: match point.inner {
+                None => None,
+                Some(inner) => Some(Span::at(inner)),
             },
-            inner: None,
         }
     }
 
@@ -115,19 +141,6 @@ impl Stretch {
             span: Span::all(range),
             inner: None,
         }
-    }
-
-    /// That of the first indexes between two bounds, if both are there.
-    pub fn between(row: usize, first: Option<Bound>, last: Option<Bound>) -> Option<Stretch>
-        ensures { said_stretch_form result ≡ stretch_between row (said_form first) (said_form last) }
-    {
-        let first = first?;
-        let last = last?;
-        Some(Stretch {
-            row,
-            span: Span { first, last },
-            inner: None,
-        })
     }
 
     // What becomes of it.

@@ -15,7 +15,7 @@ mod value;
 pub use bound::{Bound, Rebinding};
 pub use ends::{Ends, difference, sum};
 pub use forms::{bound_form, entire};
-pub use held::{Claim, Held, Order, Span, Stretch};
+pub use held::{Claim, Held, Order, Point, Span, Stretch};
 pub use reach::{Index, Indexes, Reach};
 pub use sets::{
     is_closed_member, is_closed_range, operated_sets, tested_member, with_member, with_members,

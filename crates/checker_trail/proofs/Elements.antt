@@ -1,4 +1,4 @@
--- A first index of a row becomes defined, and values are stored to rows.
+-- First indexes of a row become defined, and values are stored to rows.
 use Rattle.std.proofs.Common.{arith, ◌≡◌, ◌∙◌, sym, ap, ap₂, refl, subst, ℕ, suc, ◌+◌, Bool, false, cond, List, [], ◌∷◌, ◌++◌}
 use Rattle.std.proofs.Common.{append_assoc, filter, length, take}
 use Rattle.std.proofs.Common.{Option, None, Some}
@@ -11,7 +11,7 @@ use Rattle.checker_trail.specs.declared.state.State.{State as Kept}
 use Rattle.checker_state.specs.Bounds.{Bound}
 use Rattle.checker_state.specs.Changes.{with_some}
 use Rattle.checker_state.specs.State.{Dead, Held, Live, State, Stretch, Stretched, with_more}
-use Rattle.checker_state.specs.Stores.{Reach, all_stored, at_index, is_none, longer, or_alone, stored, with_element}
+use Rattle.checker_state.specs.Stores.{Reach, all_stored, at_indexes, is_none, longer, or_alone, stored, with_element}
 use Rattle.checker_known.specs.Longer.{AreLonger, place_if, places_from, without}
 use Rattle.checker_trail.specs.Trail.{Moves, over_held, seen}
 use Rattle.checker_known.specs.Known.{core, viewed}
@@ -47,12 +47,12 @@ module _ (change : Held → Option Held) where
   pub without-longer : (held : List Held) → without (places_from change 0 held) held ≡ filter stays held
   without-longer held = without-behind [] held 0 refl
 
-or-more : (row : ℕ) (one : Bound) (more : List Held) → (length more ≡ 0 → ⊥) → or_alone row one more ≡ more
+or-more : (row : ℕ) (one : List Bound) (more : List Held) → (length more ≡ 0 → ⊥) → or_alone row one more ≡ more
 or-more row one [] some = absurd (some refl)
 or-more row one (held ∷ more) some = refl
 
--- where that much is held, a first index is defined
-element-is : (row : ℕ) (one : Bound) (state : Kept) (places : List ℕ) (more : List KeptHeld) → state.known.is_dead ≡ false
+-- where that much is held, first indexes are defined
+element-is : (row : ℕ) (one : List Bound) (state : Kept) (places : List ℕ) (more : List KeptHeld) → state.known.is_dead ≡ false
     → AreLonger (viewed (core state.known)) row one places more (said_all state.known.held.items)
     → over_held (λ held. with_more (or_alone row one (said_all more)) (without places held)) (seen state) ≡ with_element row one (seen state)
 element-is row one state places more live beside =
@@ -72,19 +72,19 @@ more-over : (more : List Held) (places : List ℕ) (state : State)
 more-over more places Dead = refl
 more-over more places (Live facts) = refl
 
-pub alone-moves : {a b c : Kept} (row : ℕ) (one : Bound) (places gone : List ℕ) (more : List KeptHeld) (stretch : KeptStretch)
+pub alone-moves : {a b c : Kept} (row : ℕ) (one : List Bound) (places gone : List ℕ) (more : List KeptHeld) (stretch : KeptStretch)
     → a.known.is_dead ≡ false → AreLonger (viewed (core a.known)) row one places more (said_all a.known.held.items) → more ≡ [] → gone ≡ places
-    → said_stretch stretch ≡ at_index row one → Moves (over_held (without gone)) a b
+    → said_stretch stretch ≡ at_indexes row one → Moves (over_held (without gone)) a b
     → Moves (with_some (Some (Stretched (said_stretch stretch)))) b c → Moves (with_element row one) a c
 alone-moves {a = a} {b = b} {c = c} row one places gone more stretch live beside none gone_are stretch_is removed held =
     let first = subst (λ (some : List ℕ). Moves (over_held (without some)) a b) gone_are removed in
     let rest = subst (λ (s : Stretch). Moves (with_some (Some (Stretched s))) b c) stretch_is held in
     moves-as (with_element row one) (moves-then first rest)
-    (one-over (Stretched (at_index row one)) places (seen a)
+    (one-over (Stretched (at_indexes row one)) places (seen a)
     ∙ ap (λ (some : List KeptHeld). over_held (λ held. with_more (or_alone row one (said_all some)) (without places held)) (seen a)) (sym none)
     ∙ element-is row one a places more live beside)
 
-pub longer-moves : {a b c : Kept} (row : ℕ) (one : Bound) (places gone : List ℕ) (more there : List KeptHeld) → a.known.is_dead ≡ false
+pub longer-moves : {a b c : Kept} (row : ℕ) (one : List Bound) (places gone : List ℕ) (more there : List KeptHeld) → a.known.is_dead ≡ false
     → AreLonger (viewed (core a.known)) row one places more (said_all a.known.held.items) → (length more ≡ 0 → ⊥) → gone ≡ places → there ≡ more
     → Moves (over_held (without gone)) a b → Moves (over_held (with_more (said_all there))) b c → Moves (with_element row one) a c
 longer-moves {a = a} {b = b} {c = c} row one places gone more there live beside several gone_are more_are removed held =

@@ -90,6 +90,13 @@ impl<'a> State<'a> {
         self.known.is_dead || self.known.le(left, right)
     }
 
+    /// What is known, but where no run comes.
+    pub fn known(&self) -> &Known
+        ensures { result.now ≡ self.now.known }
+    {
+        &self.known
+    }
+
     /// What is held beside rows.
     pub fn held(&self) -> &[Held]
         ensures { result.now ≡ self.now.known.held.items }

@@ -1,16 +1,14 @@
-ghost use Rattle.std.specs.Prelude.{◌≡◌};
-ghost use Rattle.checker_state.specs.Stores.{all_of_row, all_stored, gives_form, gives_index, gives_reached};
-ghost use Rattle.checker_state.specs.Stores.{gives_some};
-ghost use Rattle.checker_state.specs.Stores.{range_stretch, stored, with_element};
-ghost use Rattle.checker_state.specs.Stores.{with_joined};
+ghost use Rattle.std.specs.Prelude.{◌≡◌, ◌∷◌};
+ghost use Rattle.checker_state.specs.State.{Holds, Stretched, table_of};
+ghost use Rattle.checker_state.specs.Stores.{all_of_row, all_stored, form_span, gives_block, gives_both, gives_form};
+ghost use Rattle.checker_state.specs.Stores.{gives_index, gives_inner, gives_reached, gives_some, range_span, stored};
+ghost use Rattle.checker_state.specs.Stores.{with_both, with_element, with_joined};
+ghost use Rattle.checker_state.specs.View.{inner_spans, said_claim, said_form, said_index, said_point};
+ghost use Rattle.checker_state.specs.View.{said_reach, said_span, said_span_form};
 ghost use Rattle.checker_trail.specs.Trail.{Moves, seen};
-ghost use Rattle.checker_state.specs.View.{said_bound, said_claim, said_form, said_index};
-ghost use Rattle.checker_state.specs.View.{said_reach};
-ghost use Rattle.checker_state.specs.View.{said_stretch_form};
-ghost use Rattle.checker_state.specs.State.{table_of};
 
 use crate::state::State;
-use checker_state::{Bound, Claim, Held, Index, Indexes, Reach, Stretch};
+use checker_state::{Bound, Claim, Held, Index, Indexes, Point, Reach, Span, Stretch};
 use domain::Domain;
 use domain::interval::Interval;
 use types::OrdinalRange;
@@ -21,9 +19,11 @@ impl<'a> State<'a> {
         ensures { result ≡ gives_reached (table_of self.now.table.now) (seen self.now) (said_reach reach.now) row }
     {
         match reach.indexes {
-            Indexes::Entire => self.gives(&all_of_row(self.table.index(row), row)),
+            Indexes::Entire => self.gives(&Claim::Defined { row }),
             Indexes::One(index) => self.gives_index(row, &index),
-            Indexes::Two(index, _) => self.gives_index(row, &index),
+            Indexes::Two(one, two) => {
+                self.gives_index(row, &one) || self.gives_both(row, &one, &two)
+            }
         }
     }
 
@@ -31,7 +31,7 @@ impl<'a> State<'a> {
     fn gives_index(&self, row: usize, index: &Index) -> bool
         ensures { result ≡ gives_index (table_of self.now.table.now) (seen self.now) row (said_index index.now) }
     {
-        self.gives_form(row, index.form) || self.gives_some(range_stretch(row, index.range))
+        self.gives_form(row, index.form) || self.gives_some(row, range_span(index.range))
     }
 
     fn gives_form(&self, row: usize, form: Option<Bound>) -> bool
@@ -39,16 +39,43 @@ impl<'a> State<'a> {
     {
         match form {
             None => false,
-            Some(index) => self.gives(&Claim::Holds(Held::Stretched(Stretch::at(row, index)))),
+            Some(index) => self.gives(&stretched(row, Span::at(index), None)),
         }
     }
 
-    fn gives_some(&self, stretch: Option<Stretch>) -> bool
-        ensures { result ≡ gives_some (table_of self.now.table.now) (seen self.now) (said_stretch_form stretch) }
+    fn gives_some(&self, row: usize, span: Option<Span>) -> bool
+        ensures { result ≡ gives_some (table_of self.now.table.now) (seen self.now) row (said_span_form span) }
     {
-        match stretch {
+        match span {
             None => self.is_dead(),
-            Some(stretch) => self.gives(&Claim::Holds(Held::Stretched(stretch))),
+            Some(span) => self.gives(&stretched(row, span, None)),
+        }
+    }
+
+    // Whether those of two indexes are, each by its form or by where it lies.
+    fn gives_both(&self, row: usize, one: &Index, two: &Index) -> bool
+        ensures { result ≡ gives_both (table_of self.now.table.now) (seen self.now) row (said_index one.now)
+            (said_index two.now) }
+    {
+        self.gives_inner(row, form_span(one.form), two)
+            || self.gives_inner(row, range_span(one.range), two)
+    }
+
+    fn gives_inner(&self, row: usize, span: Option<Span>, two: &Index) -> bool
+        ensures { result ≡ gives_inner (table_of self.now.table.now) (seen self.now) row (said_span_form span)
+            (said_index two.now) }
+    {
+        self.gives_block(row, span, form_span(two.form))
+            || self.gives_block(row, span, range_span(two.range))
+    }
+
+    fn gives_block(&self, row: usize, span: Option<Span>, inner: Option<Span>) -> bool
+        ensures { result ≡ gives_block (table_of self.now.table.now) (seen self.now) row (said_span_form span)
+            (said_span_form inner) }
+    {
+        match (span, inner) {
+            (Some(span), Some(inner)) => self.gives(&stretched(row, span, Some(inner))),
+            _ => false,
         }
     }
 
@@ -76,10 +103,13 @@ impl<'a> State<'a> {
             Indexes::One(index) => {
                 self.widen(row, range);
                 if let Some(index) = index.form {
-                    self.define_element(row, index);
+                    self.define_element(row, Point { index, inner: None });
                 }
             }
-            Indexes::Two(_, _) => self.widen(row, range),
+            Indexes::Two(one, two) => {
+                self.widen(row, range);
+                self.define_both(row, one.form, two.form);
+            }
         }
     }
 
@@ -91,21 +121,31 @@ impl<'a> State<'a> {
         self.set_range(row, both);
     }
 
-    // The components of a first index are defined from here on: stretches that end beside it become longer, or else
-    // there is one of the index alone.
-    fn define_element(&mut self, row: usize, index: Bound)
-        ensures { Moves (with_element row (said_bound index)) self.old self.new }
+    // The components of two indexes are defined from here on, if both have forms.
+    fn define_both(&mut self, row: usize, one: Option<Bound>, two: Option<Bound>)
+        ensures { Moves (with_both row (said_form one) (said_form two)) self.old self.new }
+    {
+        if let (Some(index), Some(two)) = (one, two) {
+            let inner = Some(two);
+            self.define_element(row, Point { index, inner });
+        }
+    }
+
+    // The components of first indexes are defined from here on: stretches that end beside them become longer, or else
+    // there is one of the indexes alone.
+    fn define_element(&mut self, row: usize, point: Point)
+        ensures { Moves (with_element row (said_point point)) self.old self.new }
     {
         if self.known.is_dead {
             return;
         }
-        let beside = match self.known.beside(self.alloc, row, index) {
+        let beside = match self.known.beside(self.alloc, row, point) {
             Ok(beside) => beside,
             Err(error) => return self.run_short(error.into()),
         };
         self.remove_all(&beside.places);
         if beside.longer.is_empty() {
-            self.hold(Held::Stretched(Stretch::at(row, index)));
+            self.hold(Held::Stretched(Stretch::at(row, point)));
         } else {
             self.hold_all(&beside.longer);
         }
@@ -122,11 +162,30 @@ pub fn all_of_row(range: Option<OrdinalRange>, row: usize) -> Claim
     }
 }
 
-// The stretch of first indexes in a range, if its ends are numbers that bounds have.
-fn range_stretch(row: usize, range: Interval) -> Option<Stretch>
-    ensures { said_stretch_form result ≡ range_stretch row range }
+// What lies in a span, or in two, is defined.
+fn stretched(row: usize, span: Span, inner: Option<Span>) -> Claim
+    ensures { said_claim result
+        ≡ Holds (Stretched (record { row = row; spans = said_span span ∷ inner_spans inner })) }
 {
-    let first = Bound::of_number(range.first());
-    let last = Bound::of_number(range.last());
-    Stretch::between(row, first, last)
+    Claim::Holds(Held::Stretched(Stretch { row, span, inner }))
+}
+
+// The span of a form.
+fn form_span(form: Option<Bound>) -> Option<Span>
+    ensures { said_span_form result ≡ form_span (said_form form) }
+{
+    match form {
+        None => None,
+        Some(index) => Some(Span::at(index)),
+    }
+}
+
+// The span of a range, if its ends are numbers that bounds have.
+fn range_span(range: Interval) -> Option<Span>
+    ensures { said_span_form result ≡ range_span range }
+{
+    Span::between(
+        Bound::of_number(range.first()),
+        Bound::of_number(range.last()),
+    )
 }

@@ -105,3 +105,4 @@ said_span span = record { first = said_bound span.first; last = said_bound span.
 abbrev pub said_spans : Spans → List Span
 said_spans kept_spans.None = []
 said_spans (kept_spans.One span) = said_span span ∷ []
+said_spans (kept_spans.Two span inner) = said_span span ∷ said_span inner ∷ []

@@ -1,8 +1,23 @@
--- What the versions of certificates have. ISO 7185:1990 knows no certificates. It does not say how one is spelled.
-use Rattle.std.specs.Prelude.{ℕ}
+-- What the versions of certificates have: all that they differ in is told here. ISO 7185:1990 knows no certificates. It
+-- does not say how one is spelled.
+use Rattle.std.specs.Prelude.{ℕ, Bool, nat_le, if◌then◌else◌}
+use Rattle.domain.specs.declared.versions.Extension.{Extension}
+use Rattle.domain.specs.declared.versions.Extension.TheVariants.{Blocks}
 use Rattle.domain.specs.declared.versions.Version.{Version}
-use Rattle.domain.specs.declared.versions.Version.TheVariants.{One}
+use Rattle.domain.specs.declared.versions.Version.TheVariants.{One, Two}
 
--- how many spans a fact has at most
+-- the number that a version's first line names
+abbrev pub number : Version → ℕ
+number One = 1
+number Two = 2
+
+-- the number of the first version that has an extension
+abbrev pub since : Extension → ℕ
+since Blocks = 2
+
+abbrev pub has : Version → Extension → Bool
+has version extension = nat_le (since extension) (number version)
+
+-- how many spans a fact has at most: two, where elements of a matrix are defined by both their indexes
 abbrev pub most_spans : Version → ℕ
-most_spans One = 1
+most_spans version = if has version Blocks then 2 else 1

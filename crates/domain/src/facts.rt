@@ -1,8 +1,8 @@
 ghost use Rattle.std.specs.Prelude.{◌≡◌, length, map};
 ghost use Rattle.std.specs.Cmp.Lexicographic.{slice_cmp};
 ghost use Rattle.std.specs.Ordering.{nat_cmp, ordering_then};
-ghost use Rattle.domain.specs.Facts.{bound_order, path_order, said_bound, said_path, said_spans, said_step};
-ghost use Rattle.domain.specs.Facts.{span_order, step_order};
+ghost use Rattle.domain.specs.Facts.{bound_order, path_order, said_bound, said_path, said_span, said_spans};
+ghost use Rattle.domain.specs.Facts.{said_step, span_order, step_order};
 
 use std::cmp::Ordering;
 
@@ -43,6 +43,8 @@ pub enum Spans {
     /// What lies at a path is meant as a whole.
     None,
     One(Span),
+    /// Elements of a matrix, by both their indexes.
+    Two(Span, Span),
 }
 
 impl Step {
@@ -86,21 +88,30 @@ impl Bound {
     }
 }
 
+impl Span {
+    /// How the span stands to another: by their first bounds, and then by their last ones.
+    fn compare(&self, other: &Span) -> Ordering
+        ensures { result ≡ span_order (said_span self.now) (said_span other.now) }
+    {
+        self.first
+            .compare(&other.first)
+            .then(self.last.compare(&other.last))
+    }
+}
+
 impl Spans {
     /// How what is defined in the spans stands to what is in others: fewer spans come first, then paths decide, how
-    /// these stand, and then the first bounds that differ.
+    /// these stand, and then the first spans that differ.
     pub fn compare(self, other: Spans, paths: Ordering) -> Ordering
         ensures { result ≡ ordering_then (nat_cmp (length (said_spans self)) (length (said_spans other)))
             (ordering_then paths (slice_cmp span_order (said_spans self) (said_spans other))) }
     {
         match (self, other) {
             (Spans::None, Spans::None) => paths,
-            (Spans::None, Spans::One(_)) => Ordering::Less,
-            (Spans::One(_), Spans::None) => Ordering::Greater,
-            (Spans::One(one), Spans::One(another)) => {
-                let last = one.last.compare(&another.last);
-                paths.then(one.first.compare(&another.first).then(last))
-            }
+            (Spans::One(a), Spans::One(b)) => paths.then(a.compare(&b)),
+            (Spans::Two(a, b), Spans::Two(c, d)) => paths.then(a.compare(&c).then(b.compare(&d))),
+            (Spans::None, _) | (_, Spans::Two(..)) => Ordering::Less,
+            (_, Spans::None) | (Spans::Two(..), _) => Ordering::Greater,
         }
     }
 }

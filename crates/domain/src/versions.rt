@@ -1,6 +1,48 @@
+ghost use Rattle.std.specs.Prelude.{◌≡◌};
+ghost use Rattle.domain.specs.Versions.{has, number, since};
+
 /// The version of a certificate, which its first line names.
 #[derive(Clone, Copy)]
 pub enum Version {
     /// `pcert 1`.
     One,
+    /// `pcert 2`.
+    Two,
+}
+
+/// What certificates have from some version on.
+#[derive(Clone, Copy)]
+pub enum Extension {
+    /// Blocks: defined elements of a matrix, by both their indexes.
+    Blocks,
+}
+
+impl Version {
+    /// Whether certificates of the version have the extension.
+    pub fn has(self, extension: Extension) -> bool
+        ensures { result ≡ has self extension }
+    {
+        extension.since() <= self.number()
+    }
+
+    /// Its number.
+    fn number(self) -> u8
+        ensures { result ≡ number self }
+    {
+        match self {
+            Version::One => 1,
+            Version::Two => 2,
+        }
+    }
+}
+
+impl Extension {
+    /// The number of the first version that has it.
+    fn since(self) -> u8
+        ensures { result ≡ since self }
+    {
+        match self {
+            Extension::Blocks => 2,
+        }
+    }
 }

@@ -12,7 +12,7 @@ fn verdict_of_fewer_sites(alloc: Global) -> Result<Verdict, Fail> {
     let mut tree = tree_of(alloc, "x: integer", statements)?;
     tree.sites.truncate(2);
     let certificate = Certificate {
-        version: Version::One,
+        version: Version::Two,
         sections: Vec::new(alloc),
     };
     Ok(check(alloc, &tree, &certificate)?)

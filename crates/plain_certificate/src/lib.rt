@@ -39,12 +39,12 @@ pub fn widest(alloc: Global, tree: &Tree) -> Result<Certificate, AllocError>
 {
     if !has_numbers(tree) {
         return Ok(Certificate {
-            version: Version::One,
+            version: Version::Two,
             sections: Vec::new(alloc),
         });
     }
     Ok(Certificate {
-        version: Version::One,
+        version: Version::Two,
         sections: sections(alloc, tree)?,
     })
 }

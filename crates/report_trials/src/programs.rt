@@ -63,7 +63,7 @@ static ACTS: [(&[&str], &str); 9] = [
     ),
     (
         &["pcom", "--write-cert", "a.cert", "--go", "p.pas"],
-        "read p.pas;write a.cert;tell;run;tell;|pcert 1\nproc 0\nloop 0\nchange v0\nfact range v0 1 9\n|9||0",
+        "read p.pas;write a.cert;tell;run;tell;|pcert 2\nproc 0\nloop 0\nchange v0\nfact range v0 1 9\n|9||0",
     ),
     (
         &["pcom", "errs.pas"],

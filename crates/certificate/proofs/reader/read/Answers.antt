@@ -1,8 +1,16 @@
 use Rattle.std.proofs.Common.{sym, map}
 use Rattle.certificate.specs.Contents.{section_of}
 use Rattle.certificate.specs.Text.{lines}
-use Rattle.certificate.proofs.Whole.{error_only, fault_below, read_exactly, read_only, refused_for_memory}
+use Rattle.certificate.proofs.Whole.{error_only, fault_below, fault_of_heading, read_exactly, read_only, refused_for_memory}
 use Rattle.certificate.proofs.reader.read.Goals as goal
+
+pub returns-in_err-version-clause-only : goal.returns-in_err-version-clause-only
+returns-in_err-version-clause-only c version sections right spelled =
+    let text = c.args.text.now in
+    let error = c.in_err-version.field-0.0 in
+    let only = refused_for_memory error text version sections
+    (λ other. fault_of_heading text _ (lines c.in-Some.below.now) error c.in-Some.ensures.0 (sym c.in_err-version.ensures)) right spelled in
+    error_only version sections _ error c.from_residual.ensures.1 only
 
 pub returns-in_err-sections-clause-only : goal.returns-in_err-sections-clause-only
 returns-in_err-sections-clause-only c version sections right spelled =
@@ -12,7 +20,7 @@ returns-in_err-sections-clause-only c version sections right spelled =
     let only = refused_for_memory error text version sections
     (λ other. fault_below text _ (lines c.in-Some.below.now) c.in_ok-version.version error c.in-Some.ensures.0 (sym c.in_ok-version.ensures) (told other))
     right spelled in
-    error_only sections _ error c.from_residual-in_err-sections.ensures.1 only
+    error_only version sections _ error c.from_residual-in_err-sections.ensures.1 only
 
 pub returns-clause-exact : goal.returns-clause-exact
 returns-clause-exact c =

@@ -5,7 +5,7 @@ use Rattle.checker_state.specs.State.{Claim}
 use Rattle.checker_state.specs.View.{said_claim}
 use Rattle.checker_trail.specs.Trail.{seen}
 use Rattle.checker_trail.proofs.Ways.{moves-as}
-use Rattle.checker_loops.specs.Loops.{said}
+use Rattle.checker_loops.specs.Loops.{defined_of, said}
 use Rattle.checker_loops.specs.View.{claim_at}
 use Rattle.checker_loops.proofs.Stepped.{claims-row, moves-row, rows-begin, rows-whole, rows_to, said-by-rows}
 use Rattle.checker_loops.proofs.claims.claim_fact.Goals as goal
@@ -35,4 +35,4 @@ returns c =
     (ap (map (claim_at tree fact))
     (rows-whole span.first span.count c.loop-row.row c.end-row-end.result c.end-row-end.ensures c.loop-row.auto.row-end c.loop-row-test.false
     ∙ c.rows_said-span.ensures)
-    ∙ said-by-rows tree fact))
+    ∙ said-by-rows (defined_of tree) tree fact))

@@ -5,8 +5,8 @@ use Rattle.checker_state.specs.Loops.{gives_all}
 use Rattle.checker_state.specs.State.{state_gives, table_of}
 use Rattle.checker_state.specs.View.{said_claim}
 use Rattle.checker_trail.specs.Trail.{seen}
-use Rattle.checker_loops.specs.Loops.{said}
-use Rattle.checker_loops.specs.View.{claim_at}
+use Rattle.checker_loops.specs.Loops.{asked, asked_of}
+use Rattle.checker_loops.specs.View.{asked_at}
 use Rattle.checker_loops.proofs.Stepped.{given-row, not-given, rows-whole, said-by-rows}
 use Rattle.checker_loops.proofs.claims.gives_fact.Goals as goal
 
@@ -14,10 +14,10 @@ pub loop-row-preserved : goal.loop-row-preserved
 loop-row-preserved c =
     let tree = c.table-rows.result.now in
     let state = seen c.args.state.now in
-    given-row (state_gives (table_of tree) state) (claim_at tree (said_fact c.args.fact.now)) c.rows_said-span.result.first c.loop-row.row
+    given-row (state_gives (table_of tree) state) (asked_at tree (said_fact c.args.fact.now)) c.rows_said-span.result.first c.loop-row.row
     c.loop-row.auto.row c.loop-row.invariant
-    (ap (state_gives (table_of tree) state) (sym c.claim_at.ensures)
-    ∙ ap (λ (t : Tree). state_gives (table_of t) state (said_claim c.claim_at.result)) c.table-rows.ensures ∙ sym c.gives.ensures ∙ c.if-not-gives.false)
+    (ap (state_gives (table_of tree) state) (sym c.asked_at.ensures)
+    ∙ ap (λ (t : Tree). state_gives (table_of t) state (said_claim c.asked_at.result)) c.table-rows.ensures ∙ sym c.gives.ensures ∙ c.if-not-gives.false)
 
 pub returns : goal.returns
 returns c =
@@ -25,10 +25,10 @@ returns c =
     let fact = said_fact c.args.fact.now in
     let state = seen c.args.state.now in
     let span = c.rows_said-span.result in
-    sym (ap (λ (t : Tree). gives_all (table_of t) state (said t fact)) (sym c.table-rows.ensures)
+    sym (ap (λ (t : Tree). gives_all (table_of t) state (asked t fact)) (sym c.table-rows.ensures)
     ∙ ap (gives_all (table_of tree) state)
-    (sym (said-by-rows tree fact)
-    ∙ ap (map (claim_at tree fact))
+    (sym (said-by-rows (asked_of tree) tree fact)
+    ∙ ap (map (asked_at tree fact))
     (sym (rows-whole span.first span.count c.loop-row.row c.end-row-end.result c.end-row-end.ensures c.loop-row.auto.row-end c.loop-row-test.false
     ∙ c.rows_said-span.ensures)))
     ∙ c.loop-row.invariant)
@@ -39,9 +39,9 @@ returns-then-not-gives c =
     let fact = said_fact c.args.fact.now in
     let state = seen c.args.state.now in
     let span = c.rows_said-span.result in
-    sym (ap (λ (t : Tree). gives_all (table_of t) state (said t fact)) (sym c.table-rows.ensures)
-    ∙ ap (gives_all (table_of tree) state) (sym (said-by-rows tree fact) ∙ ap (map (claim_at tree fact)) (sym c.rows_said-span.ensures))
-    ∙ not-given (state_gives (table_of tree) state) (claim_at tree fact) span.first span.count c.loop-row.row c.end-row-end.result c.end-row-end.ensures
+    sym (ap (λ (t : Tree). gives_all (table_of t) state (asked t fact)) (sym c.table-rows.ensures)
+    ∙ ap (gives_all (table_of tree) state) (sym (said-by-rows (asked_of tree) tree fact) ∙ ap (map (asked_at tree fact)) (sym c.rows_said-span.ensures))
+    ∙ not-given (state_gives (table_of tree) state) (asked_at tree fact) span.first span.count c.loop-row.row c.end-row-end.result c.end-row-end.ensures
     c.loop-row.auto.row c.loop-row-test.true
-    (ap (state_gives (table_of tree) state) (sym c.claim_at.ensures)
-    ∙ ap (λ (t : Tree). state_gives (table_of t) state (said_claim c.claim_at.result)) c.table-rows.ensures ∙ sym c.gives.ensures ∙ c.if-not-gives.true))
+    (ap (state_gives (table_of tree) state) (sym c.asked_at.ensures)
+    ∙ ap (λ (t : Tree). state_gives (table_of t) state (said_claim c.asked_at.result)) c.table-rows.ensures ∙ sym c.gives.ensures ∙ c.if-not-gives.true))

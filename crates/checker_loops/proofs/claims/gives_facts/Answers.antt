@@ -7,7 +7,7 @@ use Rattle.certificate.specs.Contents.{said_fact}
 use Rattle.checker_state.specs.Loops.{gives_all}
 use Rattle.checker_state.specs.State.{state_gives, table_of}
 use Rattle.checker_trail.specs.Trail.{seen}
-use Rattle.checker_loops.specs.Loops.{said}
+use Rattle.checker_loops.specs.Loops.{asked}
 use Rattle.checker_loops.proofs.Stepped.{claims_given}
 use Rattle.checker_loops.proofs.claims.gives_facts.Goals as goal
 
@@ -17,7 +17,7 @@ returns c =
     let state = seen c.args.state.now in
     let facts = c.args.facts.now in
     sym c.loop-fact.invariant
-    ∙ ap (list_all (λ fact. gives_all (table_of tree) state (said tree (said_fact fact))))
+    ∙ ap (list_all (λ fact. gives_all (table_of tree) state (asked tree (said_fact fact))))
     (take_all c.loop-fact.fact-index facts c.loop-fact-test.false)
     ∙ claims_given (state_gives (table_of tree) state) tree facts
 
@@ -27,7 +27,7 @@ returns-then-not-gives_fact c =
     let state = seen c.args.state.now in
     let facts = c.args.facts.now in
     sym (sym (claims_given (state_gives (table_of tree) state) tree facts)
-    ∙ list_all_at (λ fact. gives_all (table_of tree) state (said tree (said_fact fact))) facts c.loop-fact.fact-index c.fact-item.result
+    ∙ list_all_at (λ fact. gives_all (table_of tree) state (asked tree (said_fact fact))) facts c.loop-fact.fact-index c.fact-item.result
     c.loop-fact-test.true
-    (ap (λ (fact : Fact). gives_all (table_of tree) state (said tree (said_fact fact))) (sym c.fact-item.is) ∙ sym c.gives_fact.ensures
+    (ap (λ (fact : Fact). gives_all (table_of tree) state (asked tree (said_fact fact))) (sym c.fact-item.is) ∙ sym c.gives_fact.ensures
     ∙ c.if-not-gives_fact.true))

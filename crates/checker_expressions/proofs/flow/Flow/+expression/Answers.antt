@@ -25,7 +25,8 @@ use Rattle.checker_expressions.specs.View.{entries_of_link, said_gathering}
 use Rattle.checker_expressions.specs.Walk.{Context, Gathering, Walking, ◌>>=◌, access_walk, actuals_hold_call, actuals_walk, call_walk, called}
 use Rattle.checker_expressions.specs.Walk.{called_block, combined}
 use Rattle.checker_expressions.specs.Walk.{deeper, form_by, form_in, gathered, members_walk, none_gathered, reach_at, set, set_walk}
-use Rattle.checker_expressions.specs.Walk.{enter, fitting, function_walk, give, in_turn, index_pieces, index_test, indexes_walk, link_walk, operated, ordinal}
+use Rattle.checker_expressions.specs.Walk.{enter, fitting, function_walk, give, in_turn, index_pieces, index_test, indexes_walk, is_kept, link_walk}
+use Rattle.checker_expressions.specs.Walk.{operated, ordinal}
 use Rattle.checker_expressions.specs.Walk.{passed_piece_of, piece_of, related_walk, result_of, result_walk, text_range, value_use}
 use Rattle.checker_expressions.specs.Walk.{value_walk}
 use Rattle.checker_expressions.specs.Walk.{variable_passed, variable_walk, whole_passed, whole_use, whole_walk}
@@ -233,10 +234,12 @@ indexes-loop-i-preserved g t c =
     let reach = said_reach here.reach in
     let range = c.index-range.result in
     let ordinal = ordinal_in c.index-range.new.self in
-    let reach_is : said_reach c.deeper-reach.result ≡ deeper (index_at ordinal index more range) reach =
-    c.deeper-reach.ensures ∙ ap (λ (form : Option Bound). deeper (record { form = form; range = range }) reach) c.form_before-form.ensures
-    ∙ ap (λ (later : List Expr). deeper (index_at (is_ordinal_variable c.table.result.now) index later range) reach) (take_rest items (here.i + 1))
-    ∙ ap (λ (t : Tree). deeper (index_at (is_ordinal_variable t) index more range) reach) c.table.ensures in
+    let kept = is_kept c.index-range.new.self.grounds.version here.left.now in
+    let reach_is : said_reach c.deeper-reach.result ≡ deeper kept (index_at ordinal index more range) reach =
+    c.deeper-reach.ensures ∙ ap₂ (λ (keeps : Bool) (form : Option Bound). deeper keeps (record { form = form; range = range }) reach) c.is_kept-keeps.ensures
+    c.form_before-form.ensures
+    ∙ ap (λ (later : List Expr). deeper kept (index_at (is_ordinal_variable c.table.result.now) index later range) reach) (take_rest items (here.i + 1))
+    ∙ ap (λ (t : Tree). deeper kept (index_at (is_ordinal_variable t) index more range) reach) c.table.ensures in
     record {
       goes = λ result new goes.
           here.invariant.goes result new

@@ -1,7 +1,7 @@
-use Rattle.std.proofs.Common.{arith, rules, ◌∙◌, subst, sym, SFits, w32}
+use Rattle.std.proofs.Common.{arith, rules, ◌∙◌, ◌∷◌, subst, sym, SFits, w32}
 use Rattle.std.proofs.lemmas.Int.{ints}
 use Rattle.checker_state.specs.Bounds.{Bound}
-use Rattle.checker_state.specs.View.{said_bound}
+use Rattle.checker_state.specs.View.{inner_bounds, said_bound}
 use Rattle.checker_known.specs.Longer.{AreNear}
 use Rattle.checker_known.specs.Known.{core, viewed}
 use Rattle.checker_known.proofs.HeldLists.{said_all}
@@ -20,11 +20,12 @@ returns c =
     let ordered = sym self.counted ∙ loose.ordered in
     let own = c.places-first.ensures.own loose.ordered in
     let within = c.places-first.ensures.between.ends in
-    let number = c.args.index.number in
+    let number = c.args.point.index.number in
+    let rest = inner_bounds c.args.point.inner in
     let fits : SFits w32 number = search rules in
-    subst (λ (bound : Bound). AreNear (viewed (core self)) row bound held c.edge.result c.edge-2.result)
-    (number-is (said_bound c.args.index) (sym c.is_some.ensures ∙ c.if-is_some.false))
-    (near-number row held first end within own ordered loose.no_knot loose.several (viewed (core self)) number _ _ c.edge.result c.edge-2.result
+    subst (λ (bound : Bound). AreNear (viewed (core self)) row (bound ∷ rest) held c.edge.result c.edge-2.result)
+    (number-is (said_bound c.args.point.index) (sym c.is_some.ensures ∙ c.if-is_some.false))
+    (near-number row held first end within own ordered loose.no_knot loose.several (viewed (core self)) number _ _ rest c.edge.result c.edge-2.result
     c.places-first.ensures.between (omega (arith, ints, fits, c.from-number.ensures)) (omega (arith, ints, fits, c.from-number.ensures))
     (edge-there _ self.held.items c.deref.result.now first end c.edge.result c.deref.ensures.value c.edge.ensures
     (ends-fall row held first end within own ordered loose.no_knot loose.several _))

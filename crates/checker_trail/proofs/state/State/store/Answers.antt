@@ -27,3 +27,13 @@ returns-in-Some c =
     (ap (λ (form : Option Bound). with_some_element row (said_form form) (with_joined row range state)) (sym c.in-Some.is)
     ∙ ap (λ (kept : Indexes). stored_at true (said_indexes kept) row range state) (sym c.in-One.is)
     ∙ ap (λ (all : Bool). stored_at all (said_indexes indexes) row range state) (sym c.if-not-reach.false))
+
+pub returns-in-Two : goal.returns-in-Two
+returns-in-Two c =
+    let state = seen c.args.self.now in
+    let row = c.args.row in
+    let range = c.args.range in
+    let indexes = c.args.reach.now.indexes in
+    moves-as (stored (said_reach c.args.reach.now) row range) (moves-then c.widen-in-Two.ensures c.define_both.ensures)
+    (ap (λ (kept : Indexes). stored_at true (said_indexes kept) row range state) (sym c.in-Two.is)
+    ∙ ap (λ (all : Bool). stored_at all (said_indexes indexes) row range state) (sym c.if-not-reach.false))
