@@ -142,7 +142,7 @@ impl Beside {
 }
 
 impl<'p, 'a> Pace<'p, 'a> {
-    // What becomes of a fact.
+    // What becomes of a fact. None is a growth.
     fn outcome(&self, fact: &mut Fact, beside: &mut Beside, coming: &Coming) -> Outcome {
         match fact {
             Fact::Range { path, range } => {
@@ -150,6 +150,7 @@ impl<'p, 'a> Pace<'p, 'a> {
                 self.widen(row, range, coming.range(path), beside)
             }
             Fact::Defined { .. } | Fact::Order { .. } => claimed(fact, coming),
+            Fact::Grows { .. } => Outcome::Falls,
         }
     }
 

@@ -96,7 +96,7 @@ fn fact_told(alloc: Global, fact: &Fact) -> Result<String, AllocError> {
             path,
             spans: Spans::None,
         } => format!(in alloc; " v{}", path.root),
-        Fact::Defined { .. } => String::from_str(alloc, " another"),
+        Fact::Defined { .. } | Fact::Grows { .. } => String::from_str(alloc, " another"),
     }
 }
 
