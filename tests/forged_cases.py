@@ -1,9 +1,9 @@
 """Cases of forged texts: a certificate and a code that are cut behind each of their bytes, in which each of their bytes
-is another one, and whose lines are exchanged, left out or written twice. What each is stands here, by the rules of
-docs/CERTIFICATES.md and docs/CODE.md: the first faulty line, and of its faults the first; else what the program is
-refused for or told, and what the machine does."""
+is another one, whose lines are exchanged, left out or written twice, and in which a line says something else. What each
+is stands here, by the rules of docs/CERTIFICATES.md and docs/CODE.md: the first faulty line, and of its faults the
+first; else what the program is refused for or told, and what the machine does."""
 
-from dataclasses import dataclass
+from dataclasses import dataclass, field
 
 from case_files import Case
 
@@ -38,8 +38,9 @@ def faults(**lines):
 @dataclass
 class Genuine:
     """A source and a certificate of it that leaves nothing open, and what is told of texts that are made of it: of the
-    one that ends behind a line, and where two lines are exchanged, a line is left out or is there twice. Where the
-    heading is one of two lines that are exchanged, the first line is another than the heading."""
+    one that ends behind a line, and where two lines are exchanged, a line is left out or is there twice, or another one
+    stands in its place. Where the heading is one of two lines that are exchanged, the first line is another than the
+    heading."""
 
     title: str
     source: bytes
@@ -48,6 +49,7 @@ class Genuine:
     exchanged: dict
     without: dict
     twice: dict
+    instead: dict = field(default_factory=dict)
 
 
 def told_at(source, part, told, is_last=False):
@@ -130,6 +132,106 @@ def matrix_by_rows():
             8: not_again,
         },
         twice=faults(_1=2, _2=2, _3=3, _4=5, _5=6, _6=6, _7=8, _8=9),
+    )
+
+
+def sums_over_turns():
+    """Two sums, one of each turn of a statement and one of those of another in it, with a growth of each."""
+    source = (
+        b"program p(output); var i, j, s, t: integer; begin s := 0; for i := 1 to 3 do begin t := i; "
+        b"for j := 1 to 4 do t := t + j; s := s + i end; write(s:1) end."
+    )
+    # A loop doesn't list the variable that is changed in it.
+    unlisted = told_at(source, b":= i; for j", "certificate refused C7")
+    unlisted_inside = told_at(source, b":= t + j", "certificate refused C7")
+    unlisted_behind = told_at(source, b":= s + i", "certificate refused C7")
+    # Without a growth a sum is any integer where a turn begins.
+    is_open = told_at(source, b"+ i", "possible error: overflow")
+    is_open_inside = told_at(source, b"+ j", "possible error: overflow")
+    not_given, not_given_inside = (told_at(source, at, "certificate refused C2") for at in (b"for i", b"for j"))
+    not_again, not_again_inside = (told_at(source, at, "certificate refused C3") for at in (b"for i", b"for j"))
+    no_growth = "certificate refused C1"
+    return Genuine(
+        "of_sums_",
+        source,
+        (
+            b"pcert 2",
+            b"proc 0",
+            b"loop 0",
+            b"change v2",
+            b"change v3",
+            b"fact grow v2 0 1 0 3",
+            b"loop 1",
+            b"change v3",
+            b"fact grow v3 1 1 3 4",
+        ),
+        cut_behind={
+            0: certificate_line(1, "F1"),
+            1: unlisted,
+            **faults(_2=2, _3=3, _7=7),
+            4: unlisted,
+            5: unlisted_inside,
+            6: unlisted_inside,
+            8: is_open_inside,
+        },
+        exchanged={
+            **faults(_2_3=2, _2_4=2, _2_5=2, _2_6=2, _2_7=2, _2_8=2, _2_9=2),
+            **faults(_3_5=4, _3_6=3, _3_7=7, _3_8=4, _3_9=3, _4_5=5, _4_6=5, _4_7=3, _4_8=5, _4_9=5),
+            **faults(_5_6=6, _5_7=7, _5_9=6, _6_7=8, _6_8=6, _7_8=7, _7_9=8, _8_9=9),
+            (3, 4): OF_THE_PROGRAM,
+            # These two lines are the same.
+            (5, 8): None,
+            # s is any integer where the outer turn begins, and so where the inner loop is entered.
+            (6, 9): not_given_inside,
+        },
+        without={
+            1: certificate_line(1, "F1"),
+            **faults(_2=2, _3=5, _7=7),
+            4: unlisted_behind,
+            5: unlisted,
+            6: is_open,
+            8: unlisted_inside,
+            9: is_open_inside,
+        },
+        twice=faults(_1=2, _2=2, _3=3, _4=5, _5=6, _6=7, _7=7, _8=9, _9=10),
+        instead={
+            6: {
+                # Each number one off on the side where less is said, and where more is said than holds.
+                b"fact grow v2 -1 1 0 3": None,
+                b"fact grow v2 0 0 0 3": None,
+                b"fact grow v2 0 1 1 3": None,
+                b"fact grow v2 0 1 0 4": None,
+                b"fact grow v2 1 1 0 3": certificate_line(6, "F4"),
+                b"fact grow v2 0 2 0 3": not_again,
+                b"fact grow v2 0 1 -1 3": certificate_line(6, "F4"),
+                b"fact grow v2 0 1 0 2": not_again,
+                b"fact grow v2 1 1 1 3": not_given,
+                b"fact grow v2 -1 1 -1 3": not_given,
+                # Nothing is given where no value is there, but no growth is known behind a change.
+                b"fact grow v1 0 1 0 3": not_again,
+                b"fact grow v3 0 1 0 3": not_again,
+                b"fact grow v0 0 1 0 3": no_growth,
+                b"fact grow v4 0 1 0 3": no_growth,
+            },
+            9: {
+                b"fact grow v3 0 1 3 4": None,
+                b"fact grow v3 1 0 3 4": None,
+                b"fact grow v3 1 1 4 4": None,
+                b"fact grow v3 1 1 3 5": None,
+                b"fact grow v3 2 1 3 4": not_given_inside,
+                b"fact grow v3 1 2 3 4": not_again_inside,
+                b"fact grow v3 1 1 2 4": not_given_inside,
+                b"fact grow v3 1 1 3 3": not_again_inside,
+                # The outer control variable doesn't change in the inner loop, and s is 0 to 6 where that is entered.
+                b"fact grow v0 1 1 3 4": not_again_inside,
+                b"fact grow v0 1 0 3 0": is_open_inside,
+                b"fact grow v2 1 1 3 4": not_given_inside,
+                b"fact grow v2 0 0 6 0": is_open_inside,
+                b"fact grow v2 0 0 5 0": not_given_inside,
+                b"fact grow v1 1 1 3 4": no_growth,
+                b"fact grow v4 1 1 3 4": no_growth,
+            },
+        },
     )
 
 
@@ -235,6 +337,9 @@ def certificate_lines(genuine):
         yield f"without_line_{line}", joined(without(genuine.lines, line)), told
     for line, told in genuine.twice.items():
         yield f"with_line_{line}_twice", joined(twice(genuine.lines, line)), told
+    for line, others in genuine.instead.items():
+        for number, (other, told) in enumerate(others.items(), 1):
+            yield f"with_line_{line}_as_{number}", joined(with_line(genuine.lines, line, other)), told
 
 
 def exchanges(lines):
@@ -252,6 +357,10 @@ def exchanged(lines, first, second):
 
 def without(lines, line):
     return lines[: line - 1] + lines[line:]
+
+
+def with_line(lines, line, other):
+    return (*lines[: line - 1], other, *lines[line:])
 
 
 def twice(lines, line):
@@ -294,7 +403,7 @@ def code_lines():
 
 
 def forged_cases():
-    for genuine in (list_of_numbers(), matrix_by_rows()):
+    for genuine in (list_of_numbers(), matrix_by_rows(), sums_over_turns()):
         for make in (cut_certificates, changed_certificates, certificate_lines):
             yield from (certificate_case(genuine, *made) for made in make(genuine))
     for make in (cut_codes, changed_codes, code_lines):

@@ -331,4 +331,32 @@ def ring(m):
                      f"while used > 0 do {leave}")
 
 
-IDIOMS = counted_list, stack, read_sort_print, divisor, histogram, halves, matrix, text, ring
+def sums(m):
+    """Sums and counts by the turns of for loops, also of one in another; and those that go on over loops or calls."""
+    room, most = m.randint(2, 40), m.randint(1, 900)
+    high, least = m.number(room), m.number(m.randint(-99, 99))
+    n, more, ask = m.pick((high, "", ""), ("n", ", n", f"read(n);\nif (n < 1) or (n > {high}) then n := {high};"))
+    m.declare({"value": f"0..{most}", "table": f"array [1..{high}] of value"}, a="table", n="integer", calls="integer")
+    fill = m.part("fill", "var a", m.loop("e", 1, high, f"a[e] := e * 7 mod {most};", forms=ALL), e="integer")
+
+    def turns(index, *texts, last=n):
+        return m.loop(index, 1, last, *texts, forms="for", down=True)
+
+    by, test = m.pick("3", "i", "a[i]", "(a[i] - i)", "sqr(i)"), m.pick("odd(i)", "a[i] > 3", "(i > 2) and odd(a[i])")
+    step = m.pick(f"s := s + {by};", f"s := {by} + s;", f"s := s - {by};", f"if {test} then s := s + 1;",
+                  f"if {test} then s := s + {by} else s := s - 1;", f"s := s + 1; if {test} then s := s + {by};")
+    total = f"s := {least};\n{turns('i', step)}\nwrite(s: 1);"
+    total = m.part("total", f"var a{more}", total, i="integer", s="integer")
+    step = m.pick("t := t + k;", "t := k + t;", "t := t - k;", "if odd(k) then t := t + j;")
+    nest = turns("j", f"t := {least};", turns("k", step, last=m.pick(n, "j")), "u := u + t;")
+    nest = f"u := 0;\n{nest}\nwrite(u: 1);"
+    nest = m.part("nest", more[2:], nest, j="integer", k="integer", t="integer", u="integer")
+    on = f"w := 0;\n{turns('p', turns('q', 'w := w ~+ 1;'))}\nwrite(w: 1);"
+    on = m.part("continue", more[2:], on, p="integer", q="integer", w="integer")
+    m.routine("tick", "var calls", "calls := calls ~+ 1;")
+    tick = f"calls := 0;\n{turns('r', m.call('tick') + ';')}\nwrite(calls: 1);"
+    m.declare(r="integer")
+    return m.program(ask, fill, *m.shuffled([total, nest, on, tick]))
+
+
+IDIOMS = counted_list, stack, read_sort_print, divisor, histogram, halves, matrix, text, ring, sums

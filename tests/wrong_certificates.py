@@ -11,12 +11,13 @@ ROOT = re.compile(rb"(?<= v)[0-9]+")
 BOUND = re.compile(rb"(v[0-9]+|)(.*)")
 ELEMENTS = re.compile(rb" defined (\S+) (\S+) (\S+)$")
 BLOCK = re.compile(rb" defined (\S+) (\S+) (\S+) (\S+) (\S+)$")
+GROWTH = re.compile(rb" grow v([0-9]+) (\S+) (\S+) (\S+) (\S+)$")
 ARRAY = re.compile(rb" (?:range (?=\S*\[)|defined (?=\S+ \S+ \S))(v[0-9]+[.a-z0-9]*)")
 ORDINAL = re.compile(rb"(?<= range )v[0-9]+(?= )|(?<= order )v[0-9]+|(?<= )v[0-9]+(?=[+-])")
 TOKEN = re.compile(rb"v[0-9]+|\[\]|\.[a-z0-9]+|[+-]?[0-9]+")
 FACTS = (b"entry", b"exit", b"fact")
 WORDS = (b"alias", b"change", *FACTS)
-FORMS = (b"range", b"defined", b"a stretch", b"a block", b"order")
+FORMS = (b"range", b"defined", b"a stretch", b"a block", b"order", b"grow")
 BOUNDED = FORMS[2:4]
 HEADS = (b"proc ", b"loop ")
 LARGE = (0, 999999, 1000000, 2147483647, 2147483648, -2147483647, -2147483648, 10**20)
@@ -57,6 +58,15 @@ def cut(chance, lines):
 
 def with_another_heading(chance, lines):
     return joined([chance.choice(HEADINGS), *lines[1:]])
+
+
+def in_version_1(lines):
+    """A certificate of version 1 with those lines that there may be in one."""
+    return [b"pcert 1", *(line for line in lines[1:] if not BLOCK.search(line) and not GROWTH.search(line))]
+
+
+def of_version_1(_, lines):
+    return joined(in_version_1(lines))
 
 
 # ---- numbers
@@ -207,6 +217,45 @@ def with_a_block(chance, lines):
     return Place(chance, lines, head_of(lines, at)).with_more(path, bounds)
 
 
+# ---- growths
+
+
+def with_another_growth(chance, lines):
+    """One that is there has other numbers or another variable, is one of another loop, or stands there beside it."""
+    found = [at for at, line in enumerate(lines) if GROWTH.search(line)]
+    if not found:
+        return nudged(chance, lines)
+    at = chance.choice(found)
+    root, *numbers = map(int, GROWTH.search(lines[at]).groups())
+    if chance.random() < 0.5:
+        return joined([*lines[:at], growth(root, with_one_moved(chance, numbers)), *lines[at + 1:]])
+    to = chance.choice([at for at, line in enumerate(lines) if line.startswith(b"loop ")])
+    named = sorted({int(root) for line in lines for root in ROOT.findall(line)})
+    more = growth(chance.choice([root, root, *named]), chance.choice((numbers, with_one_moved(chance, numbers))))
+    kept = lines if chance.random() < 0.5 else without(lines, at + 1)
+    return with_growth(kept, lines[to], more)
+
+
+def growth(root, numbers):
+    return b"fact grow v%d %d %d %d %d" % (root, *numbers)
+
+
+def with_one_moved(chance, numbers):
+    """One of the four numbers is another, mostly so that they say more."""
+    side = chance.randrange(4)
+    inwards = 1 if side < 2 else -1
+    by = chance.choice((inwards, inwards, inwards, -inwards, chance.choice((-1, 1)) * chance.randint(2, 99)))
+    return [number + by if at == side else number for at, number in enumerate(numbers)]
+
+
+def with_growth(lines, head, more):
+    """The certificate with a growth below a loop, where its others stand."""
+    at = lines.index(head)
+    end = min((to for to, line in enumerate(lines) if to > at and line.startswith(HEADS)), default=len(lines))
+    own = {*lines[at + 1:end], more}
+    return joined([*lines[:at + 1], *sorted(own, key=standing), *lines[end:]])
+
+
 def head_of(lines, at):
     return max(above for above in range(at) if lines[above].startswith(HEADS))
 
@@ -235,13 +284,14 @@ ALWAYS_WRONG = {"a line twice": doubled, "a line behind the next": put_behind_th
                 "another heading": with_another_heading}
 WAYS = {"a line left out": left_out, "a fact left out": fact_left_out, "another number": nudged,
         "another variable": with_another_variable, "another bound": with_another_bound,
-        "a stretch more": with_a_stretch, "two stretches more": with_two_stretches, "a block more": with_a_block}
+        "a stretch more": with_a_stretch, "two stretches more": with_two_stretches, "a block more": with_a_block,
+        "another growth": with_another_growth, "version 1": of_version_1}
 
 
 def wrong_certificates(chance, text):
-    """What is done to each, and its text."""
+    """What is done to each, and its text. Some are of version 1."""
     lines = text.split(b"\n")[:-1]
     titles = {*chance.sample(sorted(ALWAYS_WRONG), 2), *WAYS}
     for title, way in (ALWAYS_WRONG | WAYS).items():
         if title in titles:
-            yield title, way(chance, lines)
+            yield title, way(chance, chance.choice((lines, lines, in_version_1(lines))))

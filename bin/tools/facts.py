@@ -83,6 +83,9 @@ class Words:
             return WHERE[word], f"{self.part(path)} {lies}"
         if kind == "order":
             return WHERE[word], f"{self.part(path)} <= {self.sum(values[0], int(values[1]))}"
+        if kind == "grow":
+            least, greatest = (behind(*map(int, ends)) for ends in (values[:2], values[2:]))
+            return WHERE[word], f"{self.part(path)} in {least}..{greatest} behind k turns"
         spans = ", ".join(self.span(*ends) for ends in zip(values[::2], values[1::2]))
         return f"{WHERE[word]} defined", self.part(path) + (f"[{spans}]" if spans else "")
 
@@ -100,6 +103,12 @@ class Words:
 
     def part(self, path):
         return VARIABLE.sub(lambda found: self.names[int(found[1])], path)
+
+
+def behind(number, step):
+    """What a number is that grows by a step with each of k turns."""
+    grown = f"{step}*k"
+    return f"{number} + {grown}" if number and step else grown if step else str(number)
 
 
 def folded(groups):

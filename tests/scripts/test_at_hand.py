@@ -91,7 +91,13 @@ class Nothing(AtHand):
 
     def test_a_build_that_is_cut_off_leaves_nothing(self):
         for number in (signal.SIGINT, signal.SIGTERM):
-            how = {**self.how(SLOW="pcom=60"), "stderr": subprocess.PIPE, "start_new_session": True}
+            how = {
+                **self.how(SLOW="pcom=60"),
+                "stderr": subprocess.PIPE,
+                "start_new_session": True,
+                # Where this run ignores the signal, as one in the background does, its child would too.
+                "preexec_fn": lambda: signal.signal(signal.SIGINT, signal.SIG_DFL),
+            }
             build = subprocess.Popen(self.words("pcom", "a b.pas"), **how)
             self.wait_for("try pcom")
             os.killpg(build.pid, number)

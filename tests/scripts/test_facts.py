@@ -107,6 +107,11 @@ class Reader:
         first, _, last = words.partition("..")
         return f"{self.bound(first)} {self.bound(last or first)}"
 
+    def grown(self, words):
+        """A number and its step."""
+        number, step = re.fullmatch(r"(-?\d+(?!\*|\d))?(?: \+ )?(?:(-?\d+)\*k)?", words).groups()
+        return f"{number or 0} {step or 0}"
+
     def fact(self, head, words):
         if head == "may change":
             return f"change {self.part(words)}"
@@ -126,6 +131,9 @@ class Reader:
             return f"{word} order {self.part(order[0])} {variable} {number}"
         if words.endswith(" without values"):
             return f"{word} range {self.part(words.removesuffix(' without values'))} 1 0"
+        grown = re.fullmatch(r"(.*) in (.+)\.\.(.+) behind k turns", words)
+        if grown:
+            return f"{word} grow {self.part(grown[1])} {self.grown(grown[2])} {self.grown(grown[3])}"
         path, least, greatest = re.fullmatch(r"(.*) in (-?\d+)\.\.(-?\d+)", words).groups()
         return f"{word} range {self.part(path)} {least} {greatest}"
 
@@ -205,6 +213,18 @@ class Facts(FactsCase):
             words = Words(text.decode())
             self.assertEqual(words.said(line.split()), ("at each turn defined", said))
             self.assertEqual(Reader(text.decode()).fact("at each turn defined", said), line)
+
+    def test_growths(self):
+        """Numbers that grow, that stay, and that do both."""
+        text = b"program p; var i, n: integer; begin for i := 1 to 3 do end."
+        for line, said in (
+            ("fact grow v1 0 1 0 100", "n in 1*k..100*k behind k turns"),
+            ("fact grow v1 -5 0 7 0", "n in -5..7 behind k turns"),
+            ("fact grow v1 -9 -2 9 12", "n in -9 + -2*k..9 + 12*k behind k turns"),
+        ):
+            words = Words(text.decode())
+            self.assertEqual(words.said(line.split()), ("at each turn", said))
+            self.assertEqual(Reader(text.decode()).fact("at each turn", said), line)
 
     def test_refused(self):
         self.assertEqual(self.facts(self.put(b"program p; begin x end.")), "")

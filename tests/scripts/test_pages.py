@@ -61,7 +61,7 @@ class Pages(unittest.TestCase):
         for page in PAGES:
             for name, path in NAMED.findall(text_of(page)):
                 word = re.compile(rf"(?<![\w-]){re.escape(name.split('::')[-1])}(?![\w-])")
-                found = [it for it in paths if f"/{it}".endswith(f"/{path}")]
+                found = [it for it in paths if f"/{it}".endswith(f"/{path.removeprefix('crates/')}")]
                 with self.subTest(page=name_of(page), name=name, path=path):
                     self.assertTrue(any(word.search(text_of(os.path.join(CRATES, it))) for it in found))
 
@@ -77,6 +77,19 @@ class Pages(unittest.TestCase):
                 for row in rows if head[0] in ("crate", "crates") else ():
                     with self.subTest(page=name_of(page), crate=row[0]):
                         self.assertTrue(row[0].strip("`") in [*ROWS, "all"])
+
+    def test_the_page_of_crates_has_each_with_a_file(self):
+        """And the files of definitions that it tells are there."""
+        rows = [row for head, _, *rows in tables(text_of(os.path.join(TOP, "docs", "CRATES.md"))) for row in rows]
+        crates = [[cell.strip("`") for cell in row] for row in rows if len(row) == 3]
+        self.assertEqual([name for name, *_ in crates], list(ROWS))
+        told = [(name, path) for name, _, path in crates]
+        for name, words in (row for row in rows if len(row) == 2):
+            files_told = words.partition(", but for")[0]
+            told += [(name.strip("`"), f"specs/{it}.antt") for it in re.findall("`([^`]+)`", files_told)]
+        for name, path in told:
+            with self.subTest(crate=name, path=path):
+                self.assertTrue(os.path.exists(os.path.join(CRATES, name, path)))
 
     def test_the_table_of_seconds_has_every_crate(self):
         first = next(rows for rows in tables(text_of(os.path.join(TOP, "docs", "GATE.md"))) if rows[0][0] == "crate")
@@ -95,6 +108,14 @@ class Pages(unittest.TestCase):
                         path = edit if crate else os.path.join(TOP, name)
                         self.assertTrue(os.path.exists(path) or (not crate and name in cases))
         self.assertGreater(found, 26)
+
+    def test_crates_with_wrong_bodies_and_without(self):
+        """CONTRACTS lists the crates that keep some; GATE names some that keep none."""
+        keep = [name for name in ROWS if glob.glob(os.path.join(CRATES, name, "must-fail", "*.edit"))]
+        listed = re.search(r"crates keep them: ([^.]*)\.", text_of(os.path.join(TOP, "docs", "CONTRACTS.md")))[1]
+        self.assertEqual(sorted(re.findall(r"`(\w+)`", listed)), sorted(keep))
+        said = re.search(r"crates without wrong bodies \(([^)]*)\)", text_of(os.path.join(TOP, "docs", "GATE.md")))
+        self.assertFalse(set(re.findall(r"`(\w+)`", said[1])) & set(keep))
 
     def test_numbers_are_counted(self):
         wanted = (sum(edits()), len(edits()))

@@ -21,6 +21,7 @@ use typed_tree::tree::Tree;
 enum Loss {
     Nothing,
     Orders,
+    Growths,
     Stretches,
     Exits,
     Facts,
@@ -45,6 +46,7 @@ pub fn accepted(
     for loss in [
         Loss::Nothing,
         Loss::Orders,
+        Loss::Growths,
         Loss::Stretches,
         Loss::Exits,
         Loss::Facts,
@@ -99,6 +101,7 @@ fn lose(certificate: &mut Certificate, loss: Loss) {
 fn keep_of(facts: &mut Vec<Fact>, loss: Loss) {
     match loss {
         Loss::Orders => facts.retain(is_no_order),
+        Loss::Growths => facts.retain(is_no_growth),
         Loss::Stretches => facts.retain(is_no_stretch),
         Loss::Nothing | Loss::Exits => {}
         Loss::Facts => facts.clear(),
@@ -108,6 +111,13 @@ fn keep_of(facts: &mut Vec<Fact>, loss: Loss) {
 fn is_no_order(fact: &Fact) -> bool {
     match fact {
         Fact::Order { .. } => false,
+        _ => true,
+    }
+}
+
+fn is_no_growth(fact: &Fact) -> bool {
+    match fact {
+        Fact::Grows { .. } => false,
         _ => true,
     }
 }

@@ -50,6 +50,8 @@ pub(crate) struct Analysis<'a> {
     pub(crate) next: usize,
     /// Whether what comes is only collected, and nothing moves.
     pub(crate) narrows: bool,
+    /// How many for statements it is in.
+    pub(crate) depth: usize,
     /// States in which nothing is known but by types, for blocks that are walked from calls.
     pub(crate) spare: Vec<State<'a>>,
 }
@@ -68,6 +70,7 @@ impl<'a> Analysis<'a> {
             walked: Vec::new(alloc),
             next: 0,
             narrows: false,
+            depth: 0,
             spare: Vec::new(alloc),
         }
     }
@@ -103,8 +106,12 @@ impl<'a> Analysis<'a> {
         self.heads = loops;
     }
 
-    /// The facts that stand.
+    /// The facts that stand, where nothing moves any longer.
     pub(crate) fn take(&mut self, alloc: Global) -> Result<Proposed, AllocError> {
+        let rows = self.walk.flow.state.table();
+        for (table, facts) in self.loops.iter().zip(self.heads.iter_mut()) {
+            table.settle(facts, rows);
+        }
         let mut facts = Proposed {
             entries: Vec::new(alloc),
             exits: Vec::new(alloc),
@@ -252,7 +259,7 @@ impl<'h, 'a> How<'h, 'a> {
     /// Something comes to a place of facts. Whether anything moved.
     fn come(self, table: &mut Table, facts: &mut Vec<Fact>, coming: &Coming) -> bool {
         if self.narrows {
-            table.collect(facts, coming);
+            table.collect(facts, coming, self.counts);
             return false;
         }
         table.arrive(facts, coming, self.rows, self.ladders, self.counts)

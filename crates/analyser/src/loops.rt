@@ -2,6 +2,8 @@ use crate::analysis::Analysis;
 use crate::tally::Tally;
 use checker_expressions::count::Count;
 use checker_loops::claims::claim_facts;
+use checker_loops::growths::Turns;
+use checker_loops::rounds::Round;
 use checker_trail::Mark;
 use checker_ways::ways::Way;
 use typed_tree::tree::{ForHead, LoopHead, Stmt};
@@ -101,6 +103,7 @@ impl<'a> Analysis<'a> {
 
     // Goes on where a for has turns. The way of these.
     fn begin_turns(&mut self, number: u32, way: &Way) -> Way {
+        self.depth = self.depth.saturating_add(1);
         let walk = &mut self.walk;
         way.relate(&mut walk.flow.state, true);
         let tested = walk.tested_way(way);
@@ -110,6 +113,7 @@ impl<'a> Analysis<'a> {
 
     // Goes on behind a for, from the ends of its turns and from where it has none.
     fn leave_turns(&mut self, mark: Mark, way: &Way) {
+        self.depth = self.depth.saturating_sub(1);
         let state = &mut self.walk.flow.state;
         let turns = state.leave(mark);
         way.relate(state, false);
@@ -152,6 +156,17 @@ impl<'a> Analysis<'a> {
     fn begin_turn(&mut self, number: u32, way: &Way) {
         self.enter_loop(number, Some(way.control));
         way.begin_turn(&mut self.walk.flow.state);
+        let turns = self.turns(number, way);
+        if let Some(table) = self.loops.get_mut(number as usize) {
+            table.most = turns.most;
+        }
+        if let Some(facts) = self.heads.get(number as usize) {
+            let round = Round {
+                facts,
+                ..turns.round
+            };
+            Turns { round, ..turns }.begin(&mut self.walk.flow.state);
+        }
     }
 
     // Goes on behind a for, from the end of a turn. Whether that moved what is known at its head.
@@ -159,8 +174,19 @@ impl<'a> Analysis<'a> {
         let mark = self.mark();
         way.end_turn(&mut self.walk.flow.state);
         let moved = self.leave_turn(number, mark);
+        let turns = self.turns(number, way);
+        turns.end(&mut self.walk.flow.state);
         way.leave(&mut self.walk.flow.state);
         moved
+    }
+
+    // What its turns go by, beside facts.
+    fn turns(&self, number: u32, way: &Way) -> Turns<'a> {
+        Turns {
+            round: self.walk.round(number, Some(way.control)),
+            depth: self.depth,
+            most: way.most(),
+        }
     }
 
     // A turn ends, and the walk goes back to a mark. Whether it moved what is known at the loop's head.

@@ -3,11 +3,13 @@
 use analyser_claims::events::Event;
 use analyser_claims::lists::{row, settle};
 use analyser_claims::{Claim, Program};
+use analyser_tables::growth_of;
 use certificate::Fact;
 use checker_calls::visible::{is_outward, is_value_parameter};
 use checker_loops::pairs::Pairs;
 use domain::facts::Spans;
 use domain::interval::Interval;
+use types::TypeTable;
 
 /// What proposals are made of, by block number, and what turns change by loop number.
 #[derive(Clone, Copy)]
@@ -86,6 +88,9 @@ impl<'g, 'p, 't> Grounds<'g, 'p, 't> {
         }
         settle(&mut touched);
         self.add_ranges(&touched, &mut facts);
+        if one.control.is_some() {
+            self.add_growths(changes, &mut facts);
+        }
         for claim in row(self.claims, one.block) {
             let roots = claim.roots();
             let mut named = roots.iter().flatten();
@@ -125,6 +130,19 @@ impl<'g, 'p, 't> Grounds<'g, 'p, 't> {
                     let range = Interval::EMPTY;
                     self.program.memory.push(facts, Fact::Range { path, range });
                 }
+            }
+        }
+    }
+
+    // How each of some variables that is an integer grows with the turns of a for. Which of them grow by steps alone is
+    // seen in the first turn, where the others fall.
+    fn add_growths(&self, roots: &[u32], facts: &mut Vec<Fact>) {
+        let tree = self.program.tree;
+        for root in roots {
+            if let Some(variable) = tree.variables.get(*root as usize)
+                && tree.types.host(variable.type_id).same(TypeTable::INTEGER)
+            {
+                self.program.memory.push(facts, growth_of(*root));
             }
         }
     }

@@ -41,6 +41,14 @@ impl<'s, 'r, 'b, 'a> Coming<'s, 'r, 'b, 'a> {
         }
     }
 
+    /// What is known where it comes from.
+    pub(crate) fn state(&self) -> &State<'r> {
+        match self {
+            Coming::Here(state) => state,
+            Coming::Called { state, .. } => state,
+        }
+    }
+
     /// The least range of what lies at a path of the place: the empty range, where the path names nothing.
     pub fn range(&self, path: &Path) -> Interval {
         match self {

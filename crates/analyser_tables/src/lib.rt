@@ -2,9 +2,12 @@
 #![tactic(auto)]
 
 mod coming;
+mod growths;
 mod ladder;
+mod outcome;
 mod table;
 
 pub use coming::Coming;
+pub use growths::growth_of;
 pub use ladder::Ladders;
 pub use table::Table;

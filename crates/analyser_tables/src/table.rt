@@ -1,16 +1,22 @@
 use crate::coming::Coming;
+use crate::growths::{added, begin, begun, set_begun, set_steps, settle, steps, take_out, turn};
 use crate::ladder::Ladders;
+use crate::outcome::Outcome;
 use certificate::Fact;
 use checker_loops::claims::rows_named;
 use checker_rows::Rows;
+use checker_state::Growing;
 use domain::Domain;
+use domain::facts::Path;
+use domain::growth::Growth;
 use domain::interval::Interval;
 use std::alloc::{AllocError, Global};
+use std::mem;
 
 /// How often an end of a range moves to what comes.
 const FREE_MOVES: u8 = 3;
 
-/// How often it moves to steps of a ladder behind that. Then it goes to the end of all values.
+/// How often it moves to steps of a ladder behind that. Then it goes to the last number that it may be.
 const LADDER_MOVES: u8 = 8;
 
 /// The numbers that are tried of an order, from the least on: that a variable is less than another, at most that, or at
@@ -20,31 +26,27 @@ const LEAST_NUMBER: i32 = -1;
 const GREATEST_NUMBER: i32 = 1;
 
 /// What is known so far of a place of facts, beside the facts themselves. These move one way, but for narrowing: ranges
-/// go up from the empty one, the numbers of orders rise, and claims fall.
+/// go up from the empty one, as growths do, the numbers of orders rise, and claims fall.
 #[derive(Drop)]
 pub struct Table {
     /// Whether a state came to the place.
     pub is_reached: bool,
+    /// How many turns are finished at most, if it is the head of a for, where that was last walked.
+    pub most: i64,
     // Of each fact what stands beside it, in the order of the facts.
     beside: Vec<Beside>,
 }
 
-/// What stands beside a fact; of use for ranges alone.
+/// What stands beside a fact; of use for ranges and growths alone.
 #[derive(Clone, Copy)]
 struct Beside {
-    // How often each end moved, where this was counted.
+    // How often each end moved, where this was counted; of a growth, how often what turns add did.
     first_moves: u8,
     last_moves: u8,
-    // The join of what came in a round that narrows.
+    // The join of what came in a round that narrows: of a growth, to where it begins.
     collected: Interval,
-}
-
-/// What becomes of a fact where a state comes.
-#[derive(Clone, Copy)]
-enum Outcome {
-    Stays,
-    Moves,
-    Falls,
+    // And of what turns added.
+    steps: Interval,
 }
 
 /// What decides how far the ends of ranges move.
@@ -65,15 +67,18 @@ impl Table {
             first_moves: 0,
             last_moves: 0,
             collected: Interval::EMPTY,
+            steps: Interval::EMPTY,
         };
         Ok(Table {
             is_reached: false,
+            most: 0,
             beside: Vec::from_elem(alloc, none, facts)?,
         })
     }
 
     /// A state comes to the place: ranges are widened, and what it doesn't give falls and is taken out, as is a range
-    /// of all values. Whether anything moved, as the first state does. Moves that don't count are free.
+    /// of all values. Whether anything moved, as the first state does. Moves that don't count are free; at the head of
+    /// a loop those don't that come from outside.
     pub fn arrive(
         &mut self,
         facts: &mut Vec<Fact>,
@@ -97,10 +102,10 @@ impl Table {
             match outcome {
                 Outcome::Stays => {}
                 Outcome::Moves => has_moved = true,
-                Outcome::Falls => {
+                Outcome::Falls | Outcome::Fades => {
                     take_out(facts, place);
                     take_out(&mut self.beside, place);
-                    has_moved = true;
+                    has_moved = has_moved || matches!(outcome, Outcome::Falls);
                 }
             }
         }
@@ -108,10 +113,15 @@ impl Table {
     }
 
     /// A state comes in a round that narrows: nothing moves yet.
-    pub fn collect(&mut self, facts: &[Fact], coming: &Coming) {
+    pub fn collect(&mut self, facts: &[Fact], coming: &Coming, counts: bool) {
         for (place, beside) in self.beside.iter_mut().enumerate() {
-            if let Some(Fact::Range { path, .. }) = facts.get(place) {
-                beside.collected = beside.collected.join(&coming.range(path));
+            match facts.get(place) {
+                Some(Fact::Range { path, .. }) => beside.come(coming.range(path)),
+                Some(Fact::Grows { root, growth }) if counts => {
+                    beside.turn(growth, coming.state().growth(*root));
+                }
+                Some(Fact::Grows { root, .. }) => beside.come(coming.state().range(*root)),
+                _ => {}
             }
         }
     }
@@ -120,25 +130,51 @@ impl Table {
     pub fn narrow(&mut self, facts: &mut [Fact]) -> bool {
         let mut has_moved = false;
         for (place, beside) in self.beside.iter_mut().enumerate() {
-            if let Some(Fact::Range { range, .. }) = facts.get_mut(place) {
-                has_moved = beside.narrow(range) || has_moved;
-            }
+            has_moved = match facts.get_mut(place) {
+                Some(Fact::Range { range, .. }) => narrowed(range, &mut beside.collected),
+                Some(Fact::Grows { growth, .. }) => beside.narrow(growth),
+                _ => false,
+            } || has_moved;
         }
         has_moved
+    }
+
+    /// Nothing moves any longer: a range or a growth that says no more than the other one of its variable is dropped.
+    pub fn settle(&self, facts: &mut Vec<Fact>, rows: &Rows) {
+        settle(facts, rows, self.most);
     }
 }
 
 impl Beside {
-    // Meets a range with what was collected. Whether it moved.
-    fn narrow(&mut self, range: &mut Interval) -> bool {
-        let collected = self.collected;
-        self.collected = Interval::EMPTY;
-        if collected.is_empty() || range.leq(&collected) {
-            return false;
-        }
-        *range = range.meet(&collected);
-        true
+    // A range comes in a round that narrows.
+    fn come(&mut self, came: Interval) {
+        self.collected = self.collected.join(&came);
     }
+
+    // A turn ends, in such a round.
+    fn turn(&mut self, growth: &Growth, growing: Option<Growing>) {
+        if let Some(growing) = growing {
+            self.steps = self.steps.join(&added(growth, &growing.growth));
+        }
+    }
+
+    // Meets where a growth begins and what turns add with what was collected. Whether anything moved.
+    fn narrow(&mut self, growth: &mut Growth) -> bool {
+        let (mut begun, mut steps) = (begun(growth), steps(growth));
+        let begins = narrowed(&mut begun, &mut self.collected) && set_begun(growth, begun);
+        let turns = narrowed(&mut steps, &mut self.steps) && set_steps(growth, steps);
+        begins || turns
+    }
+}
+
+// Meets a range with what was collected, which isn't any longer. Whether it moved.
+fn narrowed(range: &mut Interval, collected: &mut Interval) -> bool {
+    let came = mem::replace(collected, Interval::EMPTY);
+    if came.is_empty() || range.leq(&came) {
+        return false;
+    }
+    *range = range.meet(&came);
+    true
 }
 
 impl<'p, 'a> Pace<'p, 'a> {
@@ -147,18 +183,41 @@ impl<'p, 'a> Pace<'p, 'a> {
         match fact {
             Fact::Range { path, range } => {
                 let row = rows_named(self.rows, path).first;
-                self.widen(row, range, coming.range(path), beside)
+                let leads = self.leads(row, path, coming);
+                self.widen(row, range, coming.range(path), leads, beside)
             }
             Fact::Defined { .. } | Fact::Order { .. } => claimed(fact, coming),
+            Fact::Grows { root, growth } if self.counts => {
+                let turned = coming.state().growth(*root);
+                let turned = turned.map(|growing| growing.growth);
+                turn(growth, &mut beside.first_moves, turned)
+            }
+            Fact::Grows { root, growth } => begin(growth, coming.state().range(*root)),
         }
     }
 
-    // Widens a range of a row by what comes. It falls, once all values lie in it.
+    // Where the values of a row may lead at the head of a loop: a variable that grows gets no others behind a turn than
+    // those that all turns lead to.
+    fn leads(&self, row: usize, path: &Path, coming: &Coming) -> Interval {
+        let limits = self.rows.row_limits(row);
+        match coming {
+            Coming::Here(state) if self.counts && path.steps.is_empty() => {
+                match state.growth(path.root) {
+                    None => limits,
+                    Some(growing) => growing.reached().meet(&limits),
+                }
+            }
+            _ => limits,
+        }
+    }
+
+    // Widens a range of a row by what comes, which may lead so far. It falls, once all values lie in it.
     fn widen(
         &self,
         row: usize,
         range: &mut Interval,
         came: Interval,
+        leads: Interval,
         beside: &mut Beside,
     ) -> Outcome {
         let limits = self.rows.row_limits(row);
@@ -169,7 +228,7 @@ impl<'p, 'a> Pace<'p, 'a> {
         *range = if range.is_empty() {
             came
         } else {
-            self.widened(row, *range, came, beside)
+            self.widened(row, *range, came, leads, beside)
         };
         if limits.leq(range) {
             Outcome::Falls
@@ -184,9 +243,10 @@ impl<'p, 'a> Pace<'p, 'a> {
         row: usize,
         range: Interval,
         came: Interval,
+        leads: Interval,
         beside: &mut Beside,
     ) -> Interval {
-        let limits = self.rows.row_limits(row);
+        let limits = range.join(&came).join(&leads);
         let mut first = range.first();
         if came.first() < first {
             let (came, limit) = (came.first(), limits.first());
@@ -202,7 +262,7 @@ impl<'p, 'a> Pace<'p, 'a> {
         limits.at_least(first).at_most(last)
     }
 
-    // Where an end goes that moves: to what comes, to the step of the ladder there, or to the end of all values.
+    // Where an end goes that moves: to what comes, to the step of the ladder there, or to the last that it may be.
     fn end(&self, moves: &mut u8, came: i64, step: i64, limit: i64) -> i64 {
         if !self.counts {
             return came;
@@ -239,12 +299,5 @@ fn rises(fact: &mut Fact) -> bool {
             true
         }
         _ => false,
-    }
-}
-
-// Takes out what stands at a place, which the last one takes.
-fn take_out<T: Drop>(list: &mut Vec<T>, place: usize) {
-    if place < list.len() {
-        let _fallen = list.swap_remove(place);
     }
 }

@@ -1,10 +1,10 @@
 //! Ladders, and what becomes of the facts of a place where states come to it.
 
-use analyser_tables::{Coming, Ladders, Table};
+use analyser_tables::{Coming, Ladders, Table, growth_of};
 use certificate::Fact;
 use checker_calls::actuals::{Actual, Bindings};
 use checker_rows::Rows;
-use checker_state::Order;
+use checker_state::{Growing, Order};
 use checker_trail::State;
 use domain::facts::{Path, Spans};
 use domain::interval::Interval;
@@ -56,12 +56,14 @@ fn defined(alloc: Global, root: u32) -> Fact {
     }
 }
 
-/// What a place claims: of a variable that it has a value, or its range; or how variable 0 stands to variable 1.
+/// What a place claims: of a variable that it has a value, or its range; or how variable 0 stands to variable 1, or how
+/// it grows.
 #[derive(Clone, Copy)]
 enum Claim {
     Value(u32),
     Range(u32),
     Order,
+    Growth,
 }
 
 fn fact_of(alloc: Global, claim: Claim) -> Fact {
@@ -76,6 +78,7 @@ fn fact_of(alloc: Global, claim: Claim) -> Fact {
             other: 1,
             number: -1,
         },
+        Claim::Growth => growth_of(0),
     }
 }
 
@@ -97,6 +100,10 @@ fn fact_told(alloc: Global, fact: &Fact) -> Result<String, AllocError> {
             spans: Spans::None,
         } => format!(in alloc; " v{}", path.root),
         Fact::Defined { .. } => String::from_str(alloc, " another"),
+        Fact::Grows { growth, .. } => format!(in alloc;
+            " {}+{}..{}+{}",
+            growth.first, growth.first_step, growth.last, growth.last_step
+        ),
     }
 }
 
@@ -113,13 +120,21 @@ enum Event {
     Between(u32, i32, i32),
     /// The state comes, which is told by a sign: whether it moved a fact.
     Comes,
+    /// Turns end in which a number of each of these ranges is added to variable 0.
+    Turns(&'static [(i32, i32)]),
     /// The state is collected.
     Collects,
+    /// The same, where moves don't count.
+    CollectsUncounted,
+    /// The end of a turn is collected in which a number of this range is added to variable 0.
+    CollectsTurn(i32, i32),
     /// Facts narrow to what was collected, which is told by a sign too.
     Narrows,
+    /// Nothing moves any longer.
+    Settles,
 }
 
-use Claim::{Range, Value};
+use Claim::{Growth, Range, Value};
 use Event::*;
 
 /// What a place claims, the steps of the ladder of variable 0, and what happens there.
@@ -134,6 +149,9 @@ fn ladders_of(alloc: Global, rows: usize, steps: &[i64]) -> Result<Ladders, Allo
     ladders.finish()?;
     Ok(ladders)
 }
+
+/// How many turns are finished at most.
+const MOST: i64 = 9;
 
 /// The facts of a place, and what is known of them.
 #[derive(Drop)]
@@ -187,11 +205,56 @@ impl Place {
                 state.define(root as usize);
                 state.set_range(root as usize, Interval::between(first, last));
             }
+            Turns(steps) => {
+                for step in steps {
+                    let mark = state.mark();
+                    self.turn(state, *step);
+                    self.meet(state, rows, ladders, true);
+                    let _end = state.leave(mark);
+                }
+            }
             Comes => return self.meet(state, rows, ladders, true),
-            Collects => self.table.collect(&self.facts, &Coming::here(state)),
+            Collects | CollectsUncounted => {
+                let counts = matches!(event, Collects);
+                self.table
+                    .collect(&self.facts, &Coming::here(state), counts);
+            }
+            CollectsTurn(least, greatest) => {
+                let mark = state.mark();
+                self.turn(state, (least, greatest));
+                self.table.collect(&self.facts, &Coming::here(state), true);
+                let _end = state.leave(mark);
+            }
             Narrows => return sign(self.table.narrow(&mut self.facts)),
+            Settles => {
+                self.table.most = MOST;
+                self.table.settle(&mut self.facts, rows);
+            }
         }
         ""
+    }
+
+    /// Variable 0 is what is claimed of it, and a number of a range is added to it.
+    fn turn(&self, state: &mut State, step: (i32, i32)) {
+        state.define(0);
+        state.set_range(0, Interval::INTEGER);
+        for fact in &self.facts {
+            match fact {
+                Fact::Range { range, .. } => state.set_range(0, *range),
+                Fact::Grows { root, growth } => {
+                    let growing = Growing {
+                        depth: 0,
+                        most: MOST,
+                        growth: *growth,
+                    };
+                    state.grow(*root, growing);
+                }
+                _ => {}
+            }
+        }
+        let step = Interval::between(step.0, step.1);
+        let range = state.range(0).add(&step);
+        state.assign(0, range, None, Some(step));
     }
 }
 
@@ -221,7 +284,7 @@ fn row_told(alloc: Global, row: &Row) -> Result<String, AllocError> {
 }
 
 /// A range falls that has all values of its type.
-static PLACES: [(Row, &str); 24] = [
+static PLACES: [(Row, &str); 38] = [
     // The first state; three moves are free, and two that don't count.
     ((&[Range(0)], &[], &[Values(0, &[5])]), " 5..5"),
     ((&[Range(0)], &[10], &[Values(0, &[0, 1, 2, 3])]), " 0..3"),
@@ -333,6 +396,152 @@ static PLACES: [(Row, &str); 24] = [
             ],
         ),
         "++- 2..100",
+    ),
+    // A growth begins with what comes from outside, and turns add to that.
+    ((&[Growth], &[], &[Uncounted(0, &[5, 3, 9])]), " 3+0..9+0"),
+    (
+        (
+            &[Growth],
+            &[],
+            &[Uncounted(0, &[5]), Turns(&[(1, 3), (1, 3), (2, 2)])],
+        ),
+        " 5+1..5+3",
+    ),
+    (
+        (
+            &[Growth],
+            &[],
+            &[Uncounted(0, &[5]), Turns(&[(1, 3), (-2, 4)])],
+        ),
+        " 5+-2..5+4",
+    ),
+    (
+        (
+            &[Growth],
+            &[],
+            &[
+                Uncounted(0, &[5]),
+                Turns(&[(0, 0), (1, 1)]),
+                Uncounted(0, &[2]),
+            ],
+        ),
+        " 2+1..5+1",
+    ),
+    // It falls where a turn ends otherwise; that moves nothing, unless turns were known to add something.
+    ((&[Growth], &[], &[Uncounted(0, &[5]), Comes, Comes]), "--"),
+    (
+        (
+            &[Growth],
+            &[],
+            &[Uncounted(0, &[5]), Turns(&[(1, 1)]), Comes, Comes],
+        ),
+        "+-",
+    ),
+    // So it does where what turns add has no number, or moves often.
+    (
+        (
+            &[Growth],
+            &[],
+            &[Uncounted(0, &[5]), Turns(&[(1, 2147483643)])],
+        ),
+        "",
+    ),
+    (
+        (
+            &[Growth],
+            &[],
+            &[
+                Uncounted(0, &[0]),
+                Turns(&[
+                    (1, 1),
+                    (1, 2),
+                    (1, 3),
+                    (1, 4),
+                    (1, 5),
+                    (1, 6),
+                    (1, 7),
+                    (1, 8),
+                    (1, 9),
+                    (1, 10),
+                    (1, 11),
+                ]),
+            ],
+        ),
+        " 0+1..0+11",
+    ),
+    (
+        (
+            &[Growth],
+            &[],
+            &[
+                Uncounted(0, &[0]),
+                Turns(&[
+                    (1, 1),
+                    (1, 2),
+                    (1, 3),
+                    (1, 4),
+                    (1, 5),
+                    (1, 6),
+                    (1, 7),
+                    (1, 8),
+                    (1, 9),
+                    (1, 10),
+                    (1, 11),
+                    (1, 12),
+                ]),
+            ],
+        ),
+        "",
+    ),
+    // The range beside it goes no further than that leads; of both is dropped what says no more than the other.
+    (
+        (
+            &[Range(0), Growth],
+            &[],
+            &[
+                Uncounted(0, &[0]),
+                Turns(&[(1, 100), (1, 100), (1, 100), (1, 100), (1, 100)]),
+            ],
+        ),
+        " 0..1000 0+1..0+100",
+    ),
+    (
+        (
+            &[Range(0), Growth],
+            &[],
+            &[
+                Uncounted(0, &[0]),
+                Turns(&[(1, 100), (1, 100), (1, 100), (1, 100), (1, 100)]),
+                Settles,
+            ],
+        ),
+        " 0+1..0+100",
+    ),
+    (
+        (
+            &[Range(0), Growth],
+            &[],
+            &[Uncounted(0, &[0, 50]), Turns(&[(0, 0)]), Settles],
+        ),
+        " 0..50",
+    ),
+    ((&[Range(0), Growth], &[], &[Settles]), " 1..0"),
+    // It narrows where it begins, and by what turns add.
+    (
+        (
+            &[Growth],
+            &[],
+            &[
+                Uncounted(0, &[0, 9]),
+                Turns(&[(1, 8)]),
+                Between(0, 0, 4),
+                CollectsUncounted,
+                CollectsTurn(2, 6),
+                Narrows,
+                Narrows,
+            ],
+        ),
+        "+- 0+2..4+6",
     ),
 ];
 

@@ -31,6 +31,11 @@ use Rattle.checker_calls.proofs.Origins.{root_is}
 use Rattle.checker_expressions.proofs.Counted.{counted-both}
 use Rattle.cert_checker.specs.declared.walk.Walk.{Walk}
 use Rattle.cert_checker.specs.View.{Goes, at_state, context_of, row_stored}
+use Rattle.checker_expressions.specs.declared.noting.Noted.{Noted}
+use Rattle.checker_expressions.specs.Walk.{Valued, noting_walk}
+use Rattle.domain.specs.Versions.{has}
+use Rattle.domain.specs.declared.versions.Extension.TheVariants.{Growths}
+use Rattle.cert_checker.specs.Steps.{assigned_walk, unnoted_walk, value_step}
 use Rattle.cert_checker.specs.Walk.{Stores, aliases_here, alike, assign, assign_component, assign_entire, assign_to, assign_value, assignment_walk, change}
 use Rattle.cert_checker.specs.Walk.{copy_to, copying_walk, from_entry, is_whole_variable, paired, point_place, reach_stored, read_value, store_to, stores_made}
 use Rattle.cert_checker.proofs.Steps.{goes-from_entry, goes-here, goes-then, moved}
@@ -51,15 +56,15 @@ module _ {old : Walk} {state : Kept} (root : ℕ) (aliases : List ℕ) (aliases_
       (ap (λ (some : List ℕ). changed_by (step some) (context_of old) (state_of old.flow)) aliases_are) (moved moves)
 
   -- a variable got a value
-  pub assigned-goes : (range : Interval) (form : Option Bound)
-      → Moves (λ known. assigned root range (unless_alias aliases form)
+  pub assigned-goes : (range : Interval) (form : Option Bound) (step : Option Interval)
+      → Moves (λ known. assigned root range (unless_alias aliases form) step
       (with_aliases_stored old.flow.state.table.now aliases (row_stored old.flow.state.table.now (root, range) ∷ []) known)) old.flow.state state
-      → Goes (assign root form range) old (at_state state old) tt
-  assigned-goes range form moves =
+      → Goes (assign root form step range) old (at_state state old) tt
+  assigned-goes range form by_step moves =
       let tree = old.flow.state.table.now in
       let step : List ℕ → State → State =
-      λ some known. assigned root range (unless_alias some form) (with_aliases_stored tree some (row_stored tree (root, range) ∷ []) known) in
-      goes-here (changed_by (step aliases)) (assign root form range)
+      λ some known. assigned root range (unless_alias some form) by_step (with_aliases_stored tree some (row_stored tree (root, range) ∷ []) known) in
+      goes-here (changed_by (step aliases)) (assign root form by_step range)
       (ap (λ (some : List ℕ). changed_by (step some) (context_of old) (state_of old.flow)) aliases_are) (moved moves)
 
 -- ---- stores at a place
@@ -87,19 +92,21 @@ module _ (place : SourcePlace) (access : Access) (reach : Reach) where
   at-root walk {old = old} {new = new} one = subst (λ (r : ℕ). Goes (walk r) old new tt) (sym (root_is access)) one
 
   -- a variable as a whole gets the value
-  pub entire-goes : {old mid new : Walk} (form : Option Bound) (range : Interval) → is_whole_variable origin selectors ≡ true
-      → Goes (change place access.root) old mid tt → Goes (assign access.root form range) mid new tt
-      → Goes (assign_to place origin selectors reach form range) old new tt
-  entire-goes {old = old} {new = new} form range is one two =
-      either-goes (is_whole_variable origin selectors) (assign_entire place (root_of origin) form range) (assign_component place origin selectors reach range)
-      (λ so. at-root (λ (r : ℕ). assign_entire place r form range)
-      (goes-then (change place access.root) (λ _. assign access.root form range) one two))
+  pub entire-goes : {old mid new : Walk} (form : Option Bound) (step : Option Interval) (range : Interval) → is_whole_variable origin selectors ≡ true
+      → Goes (change place access.root) old mid tt → Goes (assign access.root form step range) mid new tt
+      → Goes (assign_to place origin selectors reach form step range) old new tt
+  entire-goes {old = old} {new = new} form step range is one two =
+      either-goes (is_whole_variable origin selectors) (assign_entire place (root_of origin) form step range)
+      (assign_component place origin selectors reach range)
+      (λ so. at-root (λ (r : ℕ). assign_entire place r form step range)
+      (goes-then (change place access.root) (λ _. assign access.root form step range) one two))
       (λ so. absurd (false≢true (sym so ∙ is)))
 
-  pub component-goes : {old new : Walk} (form : Option Bound) (range : Interval) → is_whole_variable origin selectors ≡ false
-      → Goes (assign_component place origin selectors reach range) old new tt → Goes (assign_to place origin selectors reach form range) old new tt
-  component-goes {old = old} {new = new} form range is one =
-      either-goes (is_whole_variable origin selectors) (assign_entire place (root_of origin) form range) (assign_component place origin selectors reach range)
+  pub component-goes : {old new : Walk} (form : Option Bound) (step : Option Interval) (range : Interval) → is_whole_variable origin selectors ≡ false
+      → Goes (assign_component place origin selectors reach range) old new tt → Goes (assign_to place origin selectors reach form step range) old new tt
+  component-goes {old = old} {new = new} form step range is one =
+      either-goes (is_whole_variable origin selectors) (assign_entire place (root_of origin) form step range)
+      (assign_component place origin selectors reach range)
       (λ so. absurd (false≢true (sym is ∙ so))) (λ so. one)
 
   module _ (old : Walk) (tree : Tree) (rows : List ℕ) (tree_is : tree ≡ old.flow.state.table.now)
@@ -124,64 +131,106 @@ module _ (place : SourcePlace) (access : Access) (reach : Reach) where
         (at-root (λ (r : ℕ). store_to place r reach (paired rows ranges)) one)
 
 -- what is accessed gets the value of an expression, by the form that this has in the program
-pub value-goes : (assignment : Assignment) (reach : Reach) (passed : Known) (tree : Tree) (form : Option Bound) (range : Interval) {old new : Walk}
-    → tree ≡ old.flow.state.table.now → form ≡ bound_form (is_ordinal_variable tree) assignment.value → range ≡ known_range passed
-    → Goes (assign_to assignment.becomes (origin_of assignment.target) assignment.target.selectors.items reach form range) old new tt
-    → Goes (assign_value assignment reach passed) old new tt
-value-goes assignment reach passed tree form range {old = old} tree_is form_is range_is one =
-    let stores = λ (f : Option Bound) (r : Interval).
-    assign_to assignment.becomes (origin_of assignment.target) assignment.target.selectors.items reach f r in
-    goes-here (stores form range) (assign_value assignment reach passed)
-    (ap₂ (λ (f : Option Bound) (r : Interval). stores f r (context_of old) (state_of old.flow))
-    (form_is ∙ ap (λ (t : Tree). bound_form (is_ordinal_variable t) assignment.value) tree_is) range_is) one
+pub value-goes : (assignment : Assignment) (reach : Reach) (notes : List Noted) (passed : Known) (tree : Tree) (form : Option Bound) (step : Option Interval)
+    (range : Interval) {old new : Walk} → tree ≡ old.flow.state.table.now → form ≡ bound_form (is_ordinal_variable tree) assignment.value
+    → step ≡ value_step tree (root_of (origin_of assignment.target)) assignment.value notes → range ≡ known_range passed
+    → Goes (assign_to assignment.becomes (origin_of assignment.target) assignment.target.selectors.items reach form step range) old new tt
+    → Goes (assign_value assignment reach notes passed) old new tt
+value-goes assignment reach notes passed tree form step range {old = old} tree_is form_is step_is range_is one =
+    let root = root_of (origin_of assignment.target) in
+    let stores = λ (f : Option Bound) (s : Option Interval) (r : Interval).
+    assign_to assignment.becomes (origin_of assignment.target) assignment.target.selectors.items reach f s r in
+    goes-here (stores form step range) (assign_value assignment reach notes passed)
+    (ap₂ (λ (f : Option Bound) (r : Interval). stores f step r (context_of old) (state_of old.flow))
+    (form_is ∙ ap (λ (t : Tree). bound_form (is_ordinal_variable t) assignment.value) tree_is) range_is
+    ∙ ap (λ (s : Option Interval).
+    stores (bound_form (is_ordinal_variable old.flow.state.table.now) assignment.value) s (known_range passed) (context_of old) (state_of old.flow))
+    (step_is ∙ ap (λ (t : Tree). value_step t root assignment.value notes) tree_is)) one
 
 -- what is accessed gets any value of its type, at the point where it is read
 pub read-goes : (name place : SourcePlace) (one : ReadVariable) (tree : Tree) (selectors : List Selector) (reach held : Reach) (range : Interval)
     {old new : Walk}
     → tree ≡ old.flow.state.table.now → place ≡ point_place tree one.point name → selectors ≡ one.access.selectors.items
     → held ≡ reach_stored selectors false reach → range ≡ limits_of one.range
-    → Goes (assign_to place (origin_of one.access) one.access.selectors.items held None range) old new tt → Goes (read_value name one reach) old new tt
+    → Goes (assign_to place (origin_of one.access) one.access.selectors.items held None None range) old new tt → Goes (read_value name one reach) old new tt
 read-goes name place one tree selectors reach held range {old = old} tree_is place_is selectors_are held_is range_is stores =
     let own = one.access.selectors.items in
     let before = old.flow.state.table.now in
     let form = λ (p : SourcePlace) (r : Reach) (i : Interval).
-    assign_to p (origin_of one.access) own r None i (context_of old) (state_of old.flow) in
+    assign_to p (origin_of one.access) own r None None i (context_of old) (state_of old.flow) in
     let place_here : place ≡ point_place before one.point name = place_is ∙ ap (λ (t : Tree). point_place t one.point name) tree_is in
     let held_here : held ≡ reach_stored own false reach = held_is ∙ ap (λ (s : List Selector). reach_stored s false reach) selectors_are in
-    goes-here (assign_to place (origin_of one.access) own held None range) (read_value name one reach)
+    goes-here (assign_to place (origin_of one.access) own held None None range) (read_value name one reach)
     (ap (λ (p : SourcePlace). form p held range) place_here
     ∙ ap₂ (λ (r : Reach) (i : Interval). form (point_place before one.point name) r i) held_here range_is) stores
+
+-- ---- values that are assigned
+
+-- where certificates tell how variables grow
+pub noting-goes : (e : Expr) (told : Valued) {old new : Walk} → has (context_of old).version Growths ≡ true → Goes (noting_walk [] e) old new told
+    → Goes (assigned_walk e) old new told
+noting-goes e told {old = old} is one =
+    goes-here (noting_walk [] e) (assigned_walk e)
+    (ap (λ (b : Bool). cond b (noting_walk [] e (context_of old)) (unnoted_walk e (context_of old)) (state_of old.flow)) (sym is)) one
+
+-- where they don't
+pub unnoted-goes : (e : Expr) (known : Known) {old new : Walk} → has (context_of old).version Growths ≡ false → Goes (value_walk e) old new known
+    → Goes (assigned_walk e) old new (record { known = known; noted = [] })
+unnoted-goes e known {old = old} {new = new} is one =
+    goes-here (unnoted_walk e) (assigned_walk e)
+    (ap (λ (b : Bool). cond b (noting_walk [] e (context_of old)) (unnoted_walk e (context_of old)) (state_of old.flow)) (sym is))
+    (record {
+      unless_short = λ long.
+          let own = one.unless_short long in
+          record {
+            was_long = own.was_long;
+            has_done = λ ready.
+                let came = own.has_done ready in
+                record {
+                  goes = came.goes;
+                  noted = record {
+                    context_is = came.noted.context_is;
+                    aliases_are = came.noted.aliases_are;
+                    open_is = came.noted.open_is;
+                    broken_is = came.noted.broken_is;
+                  };
+                  value_is = ap (λ (k : Known). (let told : Valued = record { known = k; noted = [] } in told)) came.value_is;
+                  state_is = came.state_is;
+                };
+          };
+    })
 
 -- ---- whole statements
 
 -- an assignment, with its index expressions and its selectors as the checker has them
-pub assignment-goes : (assignment : Assignment) (indexes : List Expr) (selectors : List Selector) (reach held : Reach) (known passed : Known)
+pub assignment-goes : (assignment : Assignment) (indexes : List Expr) (selectors : List Selector) (reach held : Reach) (told : Valued) (passed : Known)
     {old reached valued tested new : Walk}
     → indexes ≡ assignment.indexes.items → Goes (access_walk assignment.target (index_pieces indexes)) old reached reach
-    → Goes (value_walk assignment.value) reached valued known → Goes (fitting assignment.fits known) valued tested passed
+    → Goes (assigned_walk assignment.value) reached valued told → Goes (fitting assignment.fits told.known) valued tested passed
     → selectors ≡ assignment.target.selectors.items → held ≡ reach_stored selectors (holds_call assignment.value) reach
-    → Goes (assign_value assignment held passed) tested new tt
+    → Goes (assign_value assignment held told.noted passed) tested new tt
     → Goes (from_entry assignment.number (assignment_walk assignment)) old new tt
-assignment-goes assignment indexes _ reach held known passed {old = old} {tested = tested} {new = new} indexes_are accessed valued fits selectors_are
+assignment-goes assignment indexes _ reach held told passed {old = old} {tested = tested} {new = new} indexes_are accessed valued fits selectors_are
     held_is stores =
     let target = assignment.target in
     let own = target.selectors.items in
-    let store : Reach → Known → Walking (Unit {0}) =
-    λ reach passed. assign_value assignment (reach_stored own (holds_call assignment.value) reach) passed in
+    let store : Reach → List Noted → Known → Walking (Unit {0}) =
+    λ reach notes passed. assign_value assignment (reach_stored own (holds_call assignment.value) reach) notes passed in
     let same : held ≡ reach_stored own (holds_call assignment.value) reach =
     held_is ∙ ap (λ (s : List Selector). reach_stored s (holds_call assignment.value) reach) selectors_are in
-    let stored : Goes (store reach passed) tested new tt =
-    subst (λ (r : Reach). Goes (assign_value assignment r passed) tested new tt) same stores in
+    let stored : Goes (store reach told.noted passed) tested new tt =
+    subst (λ (r : Reach). Goes (assign_value assignment r told.noted passed) tested new tt) same stores in
     let from_access : List Expr → Walking (Unit {0}) =
     λ some. access_walk target (index_pieces some)
-    >>= λ reach. value_walk assignment.value >>= λ known. fitting assignment.fits known >>= store reach in
+    >>= λ reach. assigned_walk assignment.value >>= λ told. fitting assignment.fits told.known >>= store reach told.noted in
     goes-from_entry assignment.number (assignment_walk assignment)
     (goes-here (from_access indexes) (assignment_walk assignment)
     (ap (λ (some : List Expr). from_access some (context_of old) (state_of old.flow)) indexes_are)
-    (goes-then (access_walk target (index_pieces indexes)) (λ reach. value_walk assignment.value >>= λ known. fitting assignment.fits known >>= store reach)
+    (goes-then (access_walk target (index_pieces indexes))
+    (λ reach. assigned_walk assignment.value >>= λ told. fitting assignment.fits told.known >>= store reach told.noted)
     accessed
-    (goes-then (value_walk assignment.value) (λ known. fitting assignment.fits known >>= store reach) valued
-    (goes-then (fitting assignment.fits known) (store reach) fits stored))))
+    (goes-then (assigned_walk assignment.value) (λ told. fitting assignment.fits told.known >>= store reach told.noted) valued
+    (goes-then (fitting assignment.fits told.known) (store reach told.noted) fits stored))))
 
 -- an assignment of a whole value, likewise
 pub copying-goes : (copying : Copying) (indexes more : List Expr) (selectors : List Selector) (hold : Bool) (reach held : Reach) (ranges : List Interval)

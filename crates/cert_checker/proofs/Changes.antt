@@ -26,7 +26,7 @@ use Rattle.meaning.specs.Store.{Environment, Place, Store, written}
 use Rattle.meaning.specs.Store as store
 use Rattle.checker_state.specs.Bounds.{Bound}
 use Rattle.checker_state.specs.Holds.{HasNumber, IsIn, moment, value_at}
-use Rattle.checker_state.specs.Knows.{IsFormApart, IsOfForm, Knows, bound_rests}
+use Rattle.checker_state.specs.Knows.{IsFormApart, IsOfForm, IsStep, Knows, bound_rests}
 use Rattle.checker_state.specs.Changes.{assigned}
 use Rattle.checker_state.proofs.Apart.{part}
 use Rattle.checker_state.proofs.Assigned.{assignments-hold}
@@ -188,19 +188,20 @@ module _ (tree : Tree) (pairs : List (ℕ × ℕ)) (block activations : ℕ) (en
         (are-aliased tree pairs block activations env proper aliases root (whole v) before after are typed (told range) (stored-as range inside)) known
 
     -- behind an assignment
-    pub assigned-knows : (range : Interval) (form : Option Bound) (state : State) → IsIn range v → IsOfForm (moment env before) form v
+    pub assigned-knows : (range : Interval) (form : Option Bound) (step : Option Interval) (state : State) → IsIn range v → IsOfForm (moment env before) form v
+        → IsStep (moment env before) root step v
         → Knows (all_parts tree) variables env state before
         → Knows (all_parts tree) variables env
-        (assigned root range (unless_alias aliases form) (with_aliases_stored tree aliases (told range) state)) after
-    assigned-knows range form state inside of_form known =
+        (assigned root range (unless_alias aliases form) step (with_aliases_stored tree aliases (told range) state)) after
+    assigned-knows range form step state inside of_form is_step known =
         let ready_state = with_aliases_stored tree aliases (told range) state in
         let ready = assigned-ready range inside state known in
         let own = unless_alias aliases form in
         let changes = whole-changes env aliases root (whole v) before after are
         (λ pair listed. sym (ap (λ (p : List Step × Value). p.0) (whole-only v pair listed))) in
-        assignments-hold (all_parts tree) (table_of tree) (are-rows tree) env aliases ready_state before after root range own v within-variables
+        assignments-hold (all_parts tree) (table_of tree) (are-rows tree) env aliases ready_state before after root range own step v within-variables
         changes (whole-has env aliases root v before after are) ready.knows ready.loose inside (form-unless aliases env before form v of_form)
-        (form-apart aliases form)
+        (form-apart aliases form) is_step
 
 -- ---- a control variable, of which no alias is visible
 

@@ -84,6 +84,7 @@ roots-same (kept.Defined path (kept_spans.Two span inner)) =
     ap (λ (roots : List ℕ). path.root ∷ roots)
     (ap₂ (λ (first next : List ℕ). first ++ next) (span-same span) (append-nil (given.span_roots (said_span inner)) ∙ span-same inner))
 roots-same (kept.Order root other n) = refl
+roots-same (kept.Grows root growth) = refl
 
 -- the variables that a fact names pass a test
 each-root : (test : ℕ → Bool) (one : KeptFact) (root : ℕ) → list_all test (fact_roots one) ≡ true → Contains (given.fact_roots (said_fact one)) root
@@ -109,6 +110,7 @@ own-known tree block (kept.Defined path kept_spans.None) is = result-known tree 
 own-known tree block (kept.Defined path (kept_spans.One span)) is = absurd (false≢true is)
 own-known tree block (kept.Defined path (kept_spans.Two span inner)) is = absurd (false≢true is)
 own-known tree block (kept.Order root other n) is = absurd (false≢true is)
+own-known tree block (kept.Grows root growth) is = absurd (false≢true is)
 
 -- what is known where it ends
 exit-may : (tree : Tree) (section : KeptSection) (one : KeptFact) → exit_is_known tree section one ≡ true

@@ -10,7 +10,7 @@ use Rattle.types.specs.Forms.{Form}
 use Rattle.types.specs.Forms.{Array, Record}
 use Rattle.types.specs.Types.{form_kind, form_range, is_ordinal, is_structured_kind}
 use Rattle.typed_tree.specs.Accesses.{AtVariable, is_type, led}
-use Rattle.typed_tree.specs.Loops.{AreLoops, Inside, IsLoop, all_inside, inside_of, statement_inside}
+use Rattle.typed_tree.specs.Loops.{AreLoops, Inside, IsLoop, LoopControls, all_inside, inside_of, statement_inside}
 use Rattle.typed_tree.specs.WellFormed.{all_hold, are_whole, is_control, is_declared, is_local_kind, is_visible, is_well_formed_expr, is_well_formed_stmt}
 use Rattle.typed_tree.specs.WellFormed.{fits_target, is_well_formed_record, leads_to_ordinal, of_one, outline_of, stmt_is_well_formed}
 use Rattle.typed_tree.specs.declared.tree.Expr.{Expr}
@@ -27,13 +27,13 @@ use Rattle.checker_state.specs.Loops.{is_among}
 use Rattle.checker_rows.specs.Rows.{Parts, all_parts, is_ordinal_variable, no_parts}
 use Rattle.checker_rows.proofs.Accessed.{IsLeafRow, row-is}
 use Rattle.checker_state.specs.Knows.{AreEntire}
-use Rattle.checker_loops.specs.Loops.{controls_inside, controls_of}
+use Rattle.checker_loops.specs.Loops.{controls_inside, controls_of, has_control, is_for_statement}
 use Rattle.checker_calls.proofs.Headings.{one-there}
 use Rattle.checker_expressions.proofs.SoundAccesses.{leads-seen, leads-type}
 
 -- ---- the loops of parts
 
-pub loops-parts : (rows : List Loop) (block : ℕ) (first second : List (ℕ × List ℕ)) → AreLoops rows block (first ++ second)
+pub loops-parts : (rows : List Loop) (block : ℕ) (first second : List (ℕ × LoopControls)) → AreLoops rows block (first ++ second)
     → AreLoops rows block first × AreLoops rows block second
 loops-parts rows block [] second are = (tt, are)
 loops-parts rows block (one ∷ first) second are = let parts = loops-parts rows block first second are.1 in ((are.0, parts.0), parts.1)
@@ -204,7 +204,15 @@ ordinal-entire tree controls ordinal row steps behind of_row =
         (sym (ap (of_one (λ (variable : Variable). is_ordinal tree.types variable.type_id)) leaf.variable_is) ∙ of_type) leaf.structured
 
 -- inside a loop of the table
-pub inside-ordinal : (tree : Tree) (block number : ℕ) (controls : List ℕ) → AreOrdinal tree controls → IsLoop tree.loops.items block (number, controls)
+pub inside-told : (tree : Tree) (block number : ℕ) (told : LoopControls) → IsLoop tree.loops.items block (number, told)
+    → controls_inside tree number ≡ told.inside
+inside-told tree block number told (row, at, of_block, are) = ap controls_of at ∙ ap (λ (t : LoopControls). t.inside) are
+
+pub inside-ordinal : (tree : Tree) (block number : ℕ) (told : LoopControls) → AreOrdinal tree told.inside → IsLoop tree.loops.items block (number, told)
     → AreOrdinal tree (controls_inside tree number)
-inside-ordinal tree block number controls ordinal (row, at, of_block, are) =
-    subst (AreOrdinal tree) (sym (ap controls_of at ∙ are)) ordinal
+inside-ordinal tree block number told ordinal is = subst (AreOrdinal tree) (sym (inside-told tree block number told is)) ordinal
+
+-- by its row a loop is a for statement or not
+pub kind-told : (tree : Tree) (block number : ℕ) (told : LoopControls) → IsLoop tree.loops.items block (number, told)
+    → is_for_statement tree number ≡ is_some told.own
+kind-told tree block number told (row, at, of_block, are) = ap has_control at ∙ ap (λ (t : LoopControls). is_some t.own) are

@@ -101,7 +101,7 @@ module _ (tree : Tree) (well : IsWellFormed tree) (certificate : Certificate) (u
         keeps-then at _ _ (keeps-passing tree blocks number block arguments caller s well is)
         (λ _. keeps-then at _ _
         (statement-kept tree blocks (declare-theirs tree well) number at (activation-grounds tree blocks number block arguments caller s) calls leave
-        block.body [] [] tt (well-body tree well number block is) (begun-body tree well number block is) body.inner body.stands body.yields)
+        block.body [] [] [] tt (well-body tree well number block is) (begun-body tree well number block is) body.inner body.stands body.yields)
         (λ _. keeps-result at block.heading.result at.visible))
 
     abbrev inner : ℕ → Action Value

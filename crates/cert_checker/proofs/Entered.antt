@@ -47,31 +47,38 @@ use Rattle.cert_checker.specs.Walk.{first_context, assign_component, assign_enti
 use Rattle.cert_checker.specs.Walk.{for_walk, index_test, loop_walk, steady_in}
 use Rattle.cert_checker.specs.Walk.{tested_way, while_round, repeat_round, statement_step, statement_walk, where_so, all_of, block_walk, blocks_walk}
 use Rattle.cert_checker.specs.Walk.{index_root, is_whole_variable, point_place, read_value, read_walk, record_walk}
-use Rattle.cert_checker.specs.Walk.{begin_way, program_walk, reach_stored, result_use}
+use Rattle.domain.specs.Facts.{Fact}
+use Rattle.checker_loops.specs.Growths.{Turns, growths_begun}
+use Rattle.checker_expressions.specs.Walk.{Valued}
+use Rattle.cert_checker.specs.Steps.{assigned_walk, value_step}
+use Rattle.cert_checker.proofs.AssignedValues.{assigned-entered}
+use Rattle.cert_checker.specs.Walk.{turns_in, begin_way, program_walk, reach_stored, result_use}
 use Rattle.checker_expressions.proofs.Entered.{Enters, access-entered, and_no_more, and_then, call-entered, parameter-entered, value-entered, whole-entered}
 
 -- what comes behind the value of an assignment
-abbrev stores : Assignment → Reach → Known → Walking (Unit {0})
-stores assignment reach known =
-    fitting assignment.fits known >>= assign_value assignment (reach_stored assignment.target.selectors.items (holds_call assignment.value) reach)
+abbrev stores : Assignment → Reach → Valued → Walking (Unit {0})
+stores assignment reach told =
+    fitting assignment.fits told.known
+    >>= assign_value assignment (reach_stored assignment.target.selectors.items (holds_call assignment.value) reach) told.noted
 
 -- what enters nothing either way
 either-silent : (test : Bool) (one other : Walking (Unit {0})) → Enters one [] → Enters other [] → Enters (if test then one else other) []
 either-silent true one other first second = first
 either-silent false one other first second = second
 
-assigned-silent : (becomes : Place) (origin : Origin) (selectors : List Selector) (reach : Reach) (form : Option Bound) (range : Interval)
-    → Enters (assign_to becomes origin selectors reach form range) []
-assigned-silent becomes origin selectors reach form range =
-    either-silent (is_whole_variable origin selectors) (assign_entire becomes (accesses.root_of origin) form range)
+assigned-silent : (becomes : Place) (origin : Origin) (selectors : List Selector) (reach : Reach) (form : Option Bound) (step : Option Interval)
+    (range : Interval) → Enters (assign_to becomes origin selectors reach form step range) []
+assigned-silent becomes origin selectors reach form step range =
+    either-silent (is_whole_variable origin selectors) (assign_entire becomes (accesses.root_of origin) form step range)
     (assign_component becomes origin selectors reach range) (λ context state. refl) (λ context state. refl)
 
-stores-silent : (assignment : Assignment) (reach : Reach) (known : Known) → Enters (stores assignment reach known) []
-stores-silent assignment reach known context state =
+stores-silent : (assignment : Assignment) (reach : Reach) (told : Valued) → Enters (stores assignment reach told) []
+stores-silent assignment reach told context state =
     let target = assignment.target in
-    let passed = fitting assignment.fits known context state in
+    let passed = fitting assignment.fits told.known context state in
     assigned-silent assignment.becomes (origin_of target) target.selectors.items (reach_stored target.selectors.items (holds_call assignment.value) reach)
-    (bound_form (is_ordinal_variable context.tree) assignment.value) (known_range passed.value) context passed.after
+    (bound_form (is_ordinal_variable context.tree) assignment.value)
+    (value_step context.tree (accesses.root_of (origin_of target)) assignment.value told.noted) (known_range passed.value) context passed.after
 
 -- walks one after another enter what each enters
 all-entered : {X : Type 0} (walk : X → Walking (Unit {0})) (numbers : X → List ℕ) → ((x : X) → Enters (walk x) (numbers x)) → (xs : List X)
@@ -107,7 +114,7 @@ read-entered name one context state =
     let reached = access_walk access (index_pieces one.indexes.items) context state in
     let rest = read_value name one reached.value context reached.after in
     and_no_more reached.linked rest.linked _ (access-entered access one.indexes.items context state)
-    (assigned-silent (point_place context.tree one.point name) (origin_of access) selectors (reach_stored selectors false reached.value) None
+    (assigned-silent (point_place context.tree one.point name) (origin_of access) selectors (reach_stored selectors false reached.value) None None
     (limits_of one.range) context reached.after)
 
 -- a loop enters what a round of it does
@@ -123,9 +130,9 @@ loop-entered number place control round numbers each context state =
 
 module _ (head : ForHead) (body : Walking (Unit {0})) (numbers : List ℕ) (each : Enters body numbers) where
   -- a for enters what its body does
-  for_round-entered : (way : Way) → Enters (for_round way body) numbers
-  for_round-entered way context state =
-      let begun = turn_begun way state in
+  for_round-entered : (turns : Turns) (place : Place) (facts : List Fact) (way : Way) → Enters (for_round turns place facts way body) numbers
+  for_round-entered turns place facts way context state =
+      let begun = growths_begun context.tree turns facts (turn_begun way state) in
       and_no_more (body context begun).linked [] numbers (each context begun) refl
 
   turns_of-entered : (way : Way) → Enters (for_turns head body way) numbers
@@ -133,7 +140,10 @@ module _ (head : ForHead) (body : Walking (Unit {0})) (numbers : List ℕ) (each
       let tested = tested_way way context state in
       let begun = begin_way tested.value context tested.after in
       let steady = steady_in context head.loop_number tested.value in
-      loop-entered head.loop_number head.place (Some tested.value.control) (for_round steady body) numbers (for_round-entered steady) context begun.after
+      let turns = turns_in context head.loop_number tested.value in
+      let facts = (claims_at context.claims head.loop_number).facts in
+      loop-entered head.loop_number head.place (Some tested.value.control) (for_round turns head.place facts steady body) numbers
+      (for_round-entered turns head.place facts steady) context begun.after
 
   for-entered : (way : Way) → Enters (for_walk head body way) numbers
   for-entered way context state =
@@ -183,11 +193,11 @@ statement-parts : (y : Stmt-F EnteredStmt)
 statement-parts (Empty number) context state = refl
 statement-parts (Assign assignment) context state =
     let reached = access_walk assignment.target (index_pieces assignment.indexes.items) context state in
-    let first = value_walk assignment.value context reached.after in
+    let first = assigned_walk assignment.value context reached.after in
     let rest = stores assignment reached.value first.value context first.after in
     ap (λ numbers. assignment.number ∷ numbers)
     (and_then reached.linked (first.linked ++ rest.linked) _ _ (access-entered assignment.target assignment.indexes.items context state)
-    (and_no_more first.linked rest.linked _ (value-entered assignment.value context reached.after)
+    (and_no_more first.linked rest.linked _ (assigned-entered assignment.value context reached.after)
     (stores-silent assignment reached.value first.value context first.after)))
 statement-parts (Copy copying) context state =
     let reached = access_walk copying.target (index_pieces copying.indexes.items) context state in

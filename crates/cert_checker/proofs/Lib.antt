@@ -20,6 +20,7 @@ pub mod SoundAssignments
 pub mod SoundCopies
 pub mod SoundReads
 pub mod SoundLoops
+pub mod Turned
 pub mod SoundFor
 pub mod SoundWith
 pub mod SoundForms
@@ -42,3 +43,7 @@ pub mod StepsCase
 pub mod StepsLayers
 pub mod StepsBlocks
 pub mod StepsProgram
+mod SoundSteps
+mod FinishedTurns
+mod Integers
+mod AssignedValues

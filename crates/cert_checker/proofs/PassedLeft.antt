@@ -94,7 +94,7 @@ module _ (tree : Tree) (well : IsWellFormed tree) (certificate : Certificate) (u
   passed-left ready t done begun is root variable steps variable_is passed free =
       let body = body-here tree well certificate unbroken number block call.block_is in
       let kept = statement-kept tree blocks (declare-theirs tree well) number (behind tree blocks number block arguments caller s)
-      (behind-grounds tree blocks number block arguments caller s) calls leave block.body [] [] tt (well-body tree well number block call.block_is)
+      (behind-grounds tree blocks number block arguments caller s) calls leave block.body [] [] [] tt (well-body tree well number block call.block_is)
       (begun-body tree well number block call.block_is) body.inner
       body.stands body.yields in
       let left = (kept.left ready (omega (arith, begun))).leaves in

@@ -25,7 +25,7 @@ use Rattle.typed_tree.specs.declared.tree.Stmt.TheViews.{roll-Stmt}
 use Rattle.typed_tree.specs.declared.tree.Stmt.TheFolds.{map-Stmt, fold-roll-Stmt, ind-Stmt}
 use Rattle.typed_tree.specs.Accesses.{Origin, origin_of, root_of}
 use Rattle.typed_tree.specs.Calls.{holds_call, whole_holds_call}
-use Rattle.typed_tree.specs.Loops.{AreLoops, AreLoopsOf, Inside, IsLoop, all_inside, inside_of, loops_of_block, statement_inside}
+use Rattle.typed_tree.specs.Loops.{AreLoops, AreLoopsOf, Inside, IsLoop, LoopControls, all_inside, inside_of, loops_of_block, statement_inside}
 use Rattle.typed_tree.specs.WellFormed.{Outline, all_hold, are_few_cells, are_well_formed, are_well_formed_blocks, has_values, is_heading}
 use Rattle.typed_tree.specs.WellFormed.{is_visible, is_well_formed_block, is_well_formed_expr, is_well_formed_parameter, is_well_formed_read}
 use Rattle.typed_tree.specs.WellFormed.{is_well_formed_record, is_well_formed_stmt, is_well_formed_value, leads_to, outline_of, stmt_is_well_formed}
@@ -43,7 +43,7 @@ use Rattle.checker_state.specs.Values.{known_range}
 use Rattle.checker_loops.specs.Cases.{arm_start, constants_before}
 use Rattle.checker_loops.specs.Loops.{Round, all_claims, claims_at, gives_claims, head_of, round_of, with_own}
 use Rattle.checker_loops.specs.Starts.{block_start}
-use Rattle.checker_loops.specs.Ways.{Way, turn_begun, way_of, where_counts}
+use Rattle.checker_loops.specs.Ways.{Way, turn_begun, turn_ended, way_of, where_counts}
 use Rattle.checker_expressions.specs.declared.fault.Rule.{Rule}
 use Rattle.checker_expressions.specs.declared.fault.Rule.TheVariants.{LoopEntry, LoopTurn, Exit, Changes}
 use Rattle.checker_expressions.specs.Walk.{Walking, access_walk, breach_unless, fitting, index_pieces, may_change, parameter_walk, value_walk}
@@ -53,11 +53,15 @@ use Rattle.cert_checker.specs.Walk.{all_of, arms_walk, assign_component, assign_
 use Rattle.cert_checker.specs.Walk.{copy_to, first_context, for_round, for_turns, for_walk, index_root, index_test, is_whole_variable, loop_walk, point_place}
 use Rattle.cert_checker.specs.Walk.{reach_stored, read_value, read_walk, record_walk, repeat_round, result_use, statement_step, statement_walk}
 use Rattle.cert_checker.specs.Walk.{steady_in, tested_way, where_so, while_round}
+use Rattle.checker_loops.specs.Growths.{Turns, all_can_begin, all_have_turned, growths_begun}
+use Rattle.cert_checker.specs.Steps.{assigned_walk, value_step}
+use Rattle.cert_checker.specs.Walk.{turns_in}
+use Rattle.cert_checker.proofs.AssignedValues.{assigned-breaks}
 use Rattle.cert_checker.proofs.PlainLists.{AreWide, IsPlain, at, exit-none, facts-none, listed, may-change, of_block, wider}
 use Rattle.cert_checker.proofs.PlainExpressions.{Keeps, Wide, access-kept, here, none-asked, none-more, parameter-kept, procedure-kept, value-kept, whole-kept}
 
 -- loops of one part and of another
-loops-split : (rows : List Loop) (block : ℕ) (first second : List (ℕ × List ℕ)) → AreLoops rows block (first ++ second)
+loops-split : (rows : List Loop) (block : ℕ) (first second : List (ℕ × LoopControls)) → AreLoops rows block (first ++ second)
     → AreLoops rows block first × AreLoops rows block second
 loops-split rows block [] second loops = (tt, loops)
 loops-split rows block (one ∷ first) second loops =
@@ -91,10 +95,11 @@ module _ (tree : Tree) (certificate : Certificate) (plain : IsPlain tree certifi
   either-kept true one other first second = first
   either-kept false one other first second = second
 
-  assigned-kept : (place : Place) (origin : Origin) (selectors : List Selector) (reach : Reach) (form : Option Bound) (range : Interval)
-      → is_visible outline block (root_of origin) ≡ true → KeepsIn (assign_to place origin selectors reach form range)
-  assigned-kept place origin selectors reach form range seen =
-      either-kept (is_whole_variable origin selectors) (assign_entire place (root_of origin) form range) (assign_component place origin selectors reach range)
+  assigned-kept : (place : Place) (origin : Origin) (selectors : List Selector) (reach : Reach) (form : Option Bound) (step : Option Interval)
+      (range : Interval) → is_visible outline block (root_of origin) ≡ true → KeepsIn (assign_to place origin selectors reach form step range)
+  assigned-kept place origin selectors reach form step range seen =
+      either-kept (is_whole_variable origin selectors) (assign_entire place (root_of origin) form step range)
+      (assign_component place origin selectors reach range)
       (λ rounds wide state. none-more _ [] (none-changed place (root_of origin) rounds wide seen) refl)
       (λ rounds wide state. none-more _ [] (none-changed place (root_of origin) rounds wide seen) refl)
 
@@ -130,7 +135,7 @@ module _ (tree : Tree) (certificate : Certificate) (plain : IsPlain tree certifi
       let reached = access_walk one.access (index_pieces one.indexes.items) context state in
       let rest = read_value name one reached.value context reached.after in
       none-more reached.broken rest.broken (access-kept tree certificate plain block one.access one.indexes.items both.0 rounds wide state)
-      (assigned-kept (point_place tree one.point name) origin selectors (reach_stored selectors false reached.value) None (limits_of one.range)
+      (assigned-kept (point_place tree one.point name) origin selectors (reach_stored selectors false reached.value) None None (limits_of one.range)
       (leads-seen (has_values outline.types one.range) origin selectors n leads.0) rounds wide reached.after)
 
   -- ---- loops
@@ -139,9 +144,9 @@ module _ (tree : Tree) (certificate : Certificate) (plain : IsPlain tree certifi
   none-given : (facts : List Fact) (rule : Rule) (place : Place) (state : State) → facts ≡ [] → breach_unless (gives_claims tree state facts) rule place ≡ []
   none-given facts rule place state none = none-asked (gives_claims tree state facts) rule place (ap (gives_claims tree state) none)
 
-  loop-kept : (number : ℕ) (controls : List ℕ) (place : Place) (control : Option ℕ) (round : Walking State) → IsLoop rows block (number, controls)
+  loop-kept : (number : ℕ) (told : LoopControls) (place : Place) (control : Option ℕ) (round : Walking State) → IsLoop rows block (number, told)
       → Keeps tree certificate plain block round → KeepsIn (loop_walk number place control round)
-  loop-kept number controls place control round is each rounds wide state =
+  loop-kept number told place control round is each rounds wide state =
       let (row, row_is, own, same) = is in
       let claims = claims_at (all_claims tree certificate) number in
       let loop = round_of tree (listed tree certificate plain) (all_claims tree certificate) number in
@@ -176,11 +181,18 @@ module _ (tree : Tree) (certificate : Certificate) (plain : IsPlain tree certifi
       none-more first.broken (tested.broken ++ []) (each rounds wide state)
       (none-more tested.broken [] (value-kept tree certificate plain block condition well rounds wide first.after) refl)
 
-  module _ (head : ForHead) (controls : List ℕ) (is : IsLoop rows block (head.loop_number, controls)) (body : Walking (Unit {0})) (each : KeepsIn body) where
-    for_round-kept : (way : Way) → Keeps tree certificate plain block (for_round way body)
-    for_round-kept way rounds wide state =
-        let begun = turn_begun way state in
-        none-more (body (here tree certificate plain block rounds) begun).broken [] (each rounds wide begun) refl
+  module _ (head : ForHead) (told : LoopControls) (is : IsLoop rows block (head.loop_number, told)) (body : Walking (Unit {0})) (each : KeepsIn body) where
+    for_round-kept : (turns : Turns) (place : Place) (facts : List Fact) (way : Way) → facts ≡ []
+        → Keeps tree certificate plain block (for_round turns place facts way body)
+    for_round-kept turns place facts way none rounds wide state =
+        let begun = growths_begun tree turns facts (turn_begun way state) in
+        let turned = body (here tree certificate plain block rounds) begun in
+        let ended = turn_ended way turned.after in
+        let asks = breach_unless (all_have_turned turns ended facts) LoopTurn place in
+        none-more turned.broken ((asks ++ []) ++ []) (each rounds wide begun)
+        (none-more (asks ++ []) [] (none-more asks [] (none-asked (all_have_turned turns ended facts) LoopTurn place
+        (ap (all_have_turned turns ended) none)) refl)
+        refl)
 
     turns-kept : (way : Way) → KeepsIn (for_turns head body way)
     turns-kept way rounds wide state =
@@ -188,7 +200,15 @@ module _ (tree : Tree) (certificate : Certificate) (plain : IsPlain tree certifi
         let tested = tested_way way context state in
         let begun = begin_way tested.value context tested.after in
         let steady = steady_in context head.loop_number tested.value in
-        loop-kept head.loop_number controls head.place (Some tested.value.control) (for_round steady body) is (for_round-kept steady) rounds wide begun.after
+        let number = head.loop_number in
+        let turns = turns_in context number tested.value in
+        let facts = (claims_at context.claims number).facts in
+        let none = facts-none tree certificate plain number in
+        none-more (breach_unless (all_can_begin begun.after facts) LoopEntry head.place)
+        (loop_walk number head.place (Some tested.value.control) (for_round turns head.place facts steady body) context begun.after).broken
+        (none-asked (all_can_begin begun.after facts) LoopEntry head.place (ap (all_can_begin begun.after) none))
+        (loop-kept number told head.place (Some tested.value.control) (for_round turns head.place facts steady body) is
+        (for_round-kept turns head.place facts steady none) rounds wide begun.after)
 
     for-kept : (way : Way) → KeepsIn (for_walk head body way)
     for-kept way rounds wide state =
@@ -250,14 +270,16 @@ module _ (tree : Tree) (certificate : Certificate) (plain : IsPlain tree certifi
       let two = and_parts (leads_to outline block (is_scalar outline.types) origin selectors n) _ one.1 in
       let three = and_parts (is_well_formed_expr outline block assignment.value) _ two.1 in
       let reached = access_walk target (index_pieces assignment.indexes.items) context state in
-      let value = value_walk assignment.value context reached.after in
-      let passed = fitting assignment.fits value.value context value.after in
+      let value = assigned_walk assignment.value context reached.after in
+      let passed = fitting assignment.fits value.value.known context value.after in
       let reach = reach_stored selectors (holds_call assignment.value) reached.value in
-      let last = assign_value assignment reach passed.value context passed.after in
+      let last = assign_value assignment reach value.value.noted passed.value context passed.after in
       none-more reached.broken (value.broken ++ last.broken)
       (access-kept tree certificate plain block target assignment.indexes.items one.0 rounds wide state)
-      (none-more value.broken last.broken (value-kept tree certificate plain block assignment.value three.0 rounds wide reached.after)
-      (assigned-kept assignment.becomes origin selectors reach (bound_form (is_ordinal_variable tree) assignment.value) (known_range passed.value)
+      (none-more value.broken last.broken
+      (assigned-breaks assignment.value context reached.after ∙ value-kept tree certificate plain block assignment.value three.0 rounds wide reached.after)
+      (assigned-kept assignment.becomes origin selectors reach (bound_form (is_ordinal_variable tree) assignment.value)
+      (value_step tree (root_of origin) assignment.value value.value.noted) (known_range passed.value)
       (leads-seen (is_scalar outline.types) origin selectors n two.0) rounds wide passed.after))
   parts-kept (Copy copying) well loops rounds wide state =
       let context = here tree certificate plain block rounds in
@@ -312,13 +334,15 @@ module _ (tree : Tree) (certificate : Certificate) (plain : IsPlain tree certifi
   parts-kept (While head body) well loops rounds wide state =
       let both = and_parts (is_well_formed_expr outline block head.condition) (is_well_formed_stmt outline block body.value.0) well in
       let inner = statement_walk body.value.0 in
-      loop-kept head.loop_number (inside_of body.value.0).controls head.place None (while_round tree head.condition inner) loops.0
+      let told : LoopControls = record { own = None; inside = (inside_of body.value.0).controls } in
+      loop-kept head.loop_number told head.place None (while_round tree head.condition inner) loops.0
       (while-kept head.condition inner both.0 (body.value.1 both.1 loops.1)) rounds wide state
   parts-kept (Repeat head statements) well loops rounds wide state =
       let all = statements_of statements.items in
       let both = and_parts (all_hold (map (is_well_formed_stmt outline block) all)) (is_well_formed_expr outline block head.condition) well in
       let inner = all_of (map statement_walk all) in
-      loop-kept head.loop_number (all_inside (map inside_of all)).controls head.place None (repeat_round tree inner head.condition) loops.0
+      let told : LoopControls = record { own = None; inside = (all_inside (map inside_of all)).controls } in
+      loop-kept head.loop_number told head.place None (repeat_round tree inner head.condition) loops.0
       (repeat-kept inner head.condition both.1 (statements-kept statements.items both.0 loops.1)) rounds wide state
   parts-kept (For head body) well loops rounds wide state =
       let context = here tree certificate plain block rounds in
@@ -331,9 +355,10 @@ module _ (tree : Tree) (certificate : Certificate) (plain : IsPlain tree certifi
       let to = value_walk head.last.value context from.after in
       let way = way_of (is_ordinal_variable tree) head from.value to.value in
       let rest = for_walk head (statement_walk body.value.0) way context to.after in
+      let told : LoopControls = record { own = Some head.control; inside = (inside_of body.value.0).controls } in
       none-more from.broken (to.broken ++ rest.broken) (value-kept tree certificate plain block head.first.value one.0 rounds wide state)
       (none-more to.broken rest.broken (value-kept tree certificate plain block head.last.value three.0 rounds wide from.after)
-      (for-kept head (inside_of body.value.0).controls loops.0 (statement_walk body.value.0) (body.value.1 four.1 loops.1) way rounds wide to.after))
+      (for-kept head told loops.0 (statement_walk body.value.0) (body.value.1 four.1 loops.1) way rounds wide to.after))
   parts-kept (Case head arms) well loops rounds wide state =
       let context = here tree certificate plain block rounds in
       let all = statements_of arms.items in

@@ -40,15 +40,14 @@ use Rattle.meaning.specs.Store.{Environment, Place as StorePlace, Store, part}
 use Rattle.meaning.specs.Effect as effect
 use Rattle.meaning.specs.Effect.{is_in}
 use Rattle.meaning.specs.Meaning.{Surroundings, accessed, value_of, values_of}
-use Rattle.checker_state.specs.declared.value.Known.{Known}
 use Rattle.checker_state.specs.Conditions.{bound_form}
 use Rattle.checker_state.specs.Holds.{IsIn, moment}
-use Rattle.checker_state.specs.Knows.{IsOfForm}
+use Rattle.checker_state.specs.Knows.{IsOfForm, IsStep}
 use Rattle.checker_state.specs.Values.{IsKnown, known_range}
 use Rattle.checker_state.proofs.Valued.{values-tell}
 use Rattle.checker_expressions.proofs.Opened.{AreOpen}
 use Rattle.checker_expressions.proofs.Scalars.{known-of}
-use Rattle.checker_expressions.proofs.Sound.{Any_value, Good, IsHeld, SoundCalls, SoundFrom, World, declared_in, from-held, from-then, good-weaker, is_seen}
+use Rattle.checker_expressions.proofs.Sound.{Any_value, Good, SoundCalls, SoundFrom, World, declared_in, from-held, from-then, good-weaker, is_seen}
 use Rattle.checker_expressions.proofs.Sound.{kept-rule, ordinal_in, sites_in, sound-anywhere, sound-by_tree, sound-here, types_in, unbroken-left}
 use Rattle.checker_state.proofs.Refined.{expression-kept, forms-tell}
 use Rattle.checker_rows.specs.Limits.{limits_or_integer, row_limits}
@@ -64,15 +63,18 @@ use Rattle.checker_calls.proofs.Passed.{indexes-integer, reached-later, AreCompo
 use Rattle.checker_expressions.specs.declared.fault.Rule.TheVariants.{Changes}
 use Rattle.checker_expressions.proofs.Fitting.{passed-lies}
 use Rattle.checker_expressions.specs.Walk as flow
-use Rattle.checker_expressions.specs.Walk.{Context, Walked, Walking, followed, may_change, scalar_of, value_walk}
+use Rattle.checker_expressions.specs.Walk.{Context, Valued, Walked, Walking, followed, may_change, scalar_of, value_walk}
 use Rattle.checker_expressions.proofs.SoundAccesses.{LeadsTo, leads-seen, part-none, required-leaves, required-true, type-of}
 use Rattle.checker_expressions.proofs.SoundCalls.{CallLaws}
-use Rattle.checker_expressions.proofs.SoundExpressions.{SoundAction, access-sound, value-sound}
+use Rattle.checker_expressions.proofs.SoundExpressions.{SoundAction, access-sound}
 use Rattle.checker_expressions.proofs.SoundOperations.{IsFitting, fitting-sound}
 use Rattle.checker_rows.proofs.Accessed.{rows-are}
 use Rattle.checker_rows.proofs.Selected.{Matches}
 use Rattle.cert_checker.specs.Walk as walk
 use Rattle.cert_checker.specs.Walk.{Stores, alike, ends_at_index, is_some_index, is_whole_variable, reach_before, reach_of_store, reach_stored}
+use Rattle.checker_expressions.specs.declared.noting.Noted.{Noted}
+use Rattle.cert_checker.specs.Steps.{assigned_walk, value_step}
+use Rattle.cert_checker.proofs.SoundSteps.{IsAssigned, assigned-sound}
 use Rattle.cert_checker.proofs.Changes.{LiesInVariable}
 use Rattle.cert_checker.proofs.Targets.{alike-at, alike-targets}
 use Rattle.cert_checker.proofs.Written.{Fit, Foretold, listed-good, stores-good}
@@ -259,13 +261,14 @@ module _ (world : World) (block : ℕ) (env : Surroundings) (records : List Open
         (subst (λ (components : List (List Step)). Good world P s (effect.store_all place components values s)) whole good)
 
     -- to a variable as a whole
-    entire-stored : (form : Option Bound) → IsOfForm (moment visible store) form v → is_whole_variable origin selectors ≡ true
-        → SoundFrom {A = Unit {0}} {B = Unit {0}} world block visible store Any_value (effect.store place v) (walk.assign_entire becomes root form range)
-    entire-stored form of_form entire context state s same unbroken part_of here =
+    entire-stored : (form : Option Bound) (step : Option Interval) → IsOfForm (moment visible store) form v → IsStep (moment visible store) root step v
+        → is_whole_variable origin selectors ≡ true
+        → SoundFrom {A = Unit {0}} {B = Unit {0}} world block visible store Any_value (effect.store place v) (walk.assign_entire becomes root form step range)
+    entire-stored form step of_form is_step entire context state s same unbroken part_of here =
         let leads = leads_to.leads in
         let at = here.proper.visible root seen in
         let asked = walk.change becomes root context state in
-        let last = walk.assign root form range context state in
+        let last = walk.assign root form step range context state in
         let may = kept-rule (may_change context root) Changes becomes (unbroken-left asked.broken last.broken unbroken) in
         let none = whole-none (steps_of origin) selectors all leads.steps_are entire in
         let own : LiesInVariable world.tree root v = (
@@ -280,19 +283,20 @@ module _ (world : World) (block : ℕ) (env : Surroundings) (records : List Open
         subst (λ (p : Option StorePlace). Good world (Foretold world visible context (followed asked last) s.store) s (effect.store p v s)) (sym there)
         (good-weaker world (Foretold world visible context last s.store) (Foretold world visible context (followed asked last) s.store) s
         (effect.store (visible.variables root) v s) (λ done w stored then. record { tie = tt; stands = then.so.stands; kept = then.so.kept })
-        (listed-good world block visible root at.0 at.1 v range form context state s here own inside
-        (subst (λ (x : Store). IsOfForm (moment visible x) form v) (sym same) of_form) (and_parts (all_list root context.rounds) _ may).0))
+        (listed-good world block visible root at.0 at.1 v range form step context state s here own inside
+        (subst (λ (x : Store). IsOfForm (moment visible x) form v) (sym same) of_form)
+        (subst (λ (x : Store). IsStep (moment visible x) root step v) (sym same) is_step) (and_parts (all_list root context.rounds) _ may).0))
 
     -- to what is accessed
-    pub value-stored : (form : Option Bound) → IsOfForm (moment visible store) form v
+    pub value-stored : (form : Option Bound) (step : Option Interval) → IsOfForm (moment visible store) form v → IsStep (moment visible store) root step v
         → SoundFrom {A = Unit {0}} {B = Unit {0}} world block visible store Any_value (effect.store place v)
-        (walk.assign_to becomes origin selectors reach form range)
-    value-stored form of_form = by (is_whole_variable origin selectors) refl
+        (walk.assign_to becomes origin selectors reach form step range)
+    value-stored form step of_form is_step = by (is_whole_variable origin selectors) refl
       where
         by : (entire : Bool) → is_whole_variable origin selectors ≡ entire
             → SoundFrom {A = Unit {0}} {B = Unit {0}} world block visible store Any_value (effect.store place v)
-            (cond entire (walk.assign_entire becomes root form range) (walk.assign_component becomes origin selectors reach range))
-        by true is = entire-stored form of_form is
+            (cond entire (walk.assign_entire becomes root form step range) (walk.assign_component becomes origin selectors reach range))
+        by true is = entire-stored form step of_form is_step is
         by false is = component-stored is
 
   -- ---- assignments
@@ -328,22 +332,30 @@ module _ (world : World) (block : ℕ) (env : Surroundings) (records : List Open
     own_form ordinal = bound_form ordinal assignment.value
 
     -- what the walk does with the value
-    abbrev walked-store : Reach → Known → Walking (Unit {0})
-    walked-store reach known = flow.◌>>=◌ (flow.fitting assignment.fits known) (walk.assign_value assignment (held reach))
+    abbrev walked-store : Reach → Valued → Walking (Unit {0})
+    walked-store reach told = flow.◌>>=◌ (flow.fitting assignment.fits told.known) (walk.assign_value assignment (held reach) told.noted)
+
+    -- its step in a program
+    abbrev own_step : Tree → List Noted → Option Interval
+    own_step tree notes = value_step tree (root_of target_origin) assignment.value notes
 
     abbrev walked-value : Reach → Walking (Unit {0})
-    walked-value reach = flow.◌>>=◌ (value_walk assignment.value) (walked-store reach)
+    walked-value reach = flow.◌>>=◌ (assigned_walk assignment.value) (walked-store reach)
 
     module _ (reach : Reach) (place : Option StorePlace) where
-      test-sound : (store : Store) → LeadsTo world block env target_origin target_selectors (held reach) place store → (known : Known) (v : Value)
-          → IsKnown known v → scalar_of known ≡ assignment.fits.tests → IsOfForm (moment visible store) (own_form (ordinal_in world)) v
-          → SoundFrom {A = Unit {0}} {B = Unit {0}} world block visible store Any_value (tested-store place assignment.fits v) (walked-store reach known)
-      test-sound store leads known v inside of_kind of_form =
+      test-sound : (store : Store) → LeadsTo world block env target_origin target_selectors (held reach) place store → (valued : Valued) (v : Value)
+          → IsKnown valued.known v → scalar_of valued.known ≡ assignment.fits.tests → IsOfForm (moment visible store) (own_form (ordinal_in world)) v
+          → IsStep (moment visible store) (root_of target_origin) (own_step world.tree valued.noted) v
+          → SoundFrom {A = Unit {0}} {B = Unit {0}} world block visible store Any_value (tested-store place assignment.fits v) (walked-store reach valued)
+      test-sound store leads valued v inside of_kind of_form is_step =
+          let known = valued.known in
+          let notes = valued.noted in
+          let step = own_step world.tree notes in
           let fits = assignment.fits in
           let form = own_form (ordinal_in world) in
           let test = effect.require (is_in fits.range v) fits.site in
           from-then world block visible store (IsFitting known v) Any_value test (λ tested. effect.store place v) (flow.fitting fits known)
-          (walk.assign_value assignment (held reach))
+          (walk.assign_value assignment (held reach) notes)
           (sound-here world block visible store (IsFitting known v) test (flow.fitting fits known)
           (fitting-sound world block visible fits known v below inside))
           (λ passed done s t is from told.
@@ -352,11 +364,13 @@ module _ (world : World) (block : ℕ) (env : Surroundings) (records : List Open
           (subst (λ (one : Scalar). IsOf one v) of_kind (known-of known v inside)) in
           sound-by_tree world block visible t.store Any_value (effect.store place v)
           (λ (tree : Tree). walk.assign_to assignment.becomes target_origin target_selectors (held reach) (own_form (is_ordinal_variable tree))
+          (own_step tree notes)
           (known_range passed))
           (value-stored assignment.becomes target_origin target_selectors own.0 own.1 v own.2 seen (held reach) place (known_range passed)
           (values-tell.in_range passed v told.0) t.store
-          (subst (λ (x : Store). LeadsTo world block env target_origin target_selectors (held reach) place x) (sym stays) leads) form
-          (subst (λ (x : Store). IsOfForm (moment visible x) form v) (sym stays) of_form)))
+          (subst (λ (x : Store). LeadsTo world block env target_origin target_selectors (held reach) place x) (sym stays) leads) form step
+          (subst (λ (x : Store). IsOfForm (moment visible x) form v) (sym stays) of_form)
+          (subst (λ (x : Store). IsStep (moment visible x) (root_of target_origin) step v) (sym stays) is_step)))
 
       from-value : (store : Store) → LeadsTo world block env target_origin target_selectors reach place store
           → SoundFrom {A = Unit {0}} {B = Unit {0}} world block visible store Any_value
@@ -364,15 +378,17 @@ module _ (world : World) (block : ℕ) (env : Surroundings) (records : List Open
       from-value store leads =
           let value = assignment.value in
           let one = assignment.fits.tests in
-          from-held world block visible store (IsHeld one) Any_value (value_of value env) (tested-store place assignment.fits) (value_walk value)
+          let Given = IsAssigned world block env records opened laws calls one value in
+          from-held world block visible store Given Any_value (value_of value env) (tested-store place assignment.fits) (assigned_walk value)
           (walked-store reach)
-          (sound-here world block visible store (IsHeld one) (value_of value env) (value_walk value)
-          (value-sound world block env records opened laws calls value one value_well held_so begin))
-          (λ known v s t is from inside numbers.
+          (sound-here world block visible store Given (value_of value env) (assigned_walk value)
+          (assigned-sound world block env records opened laws calls value one value_well held_so begin))
+          (λ valued v s t is from given numbers.
+          let inside = given.held in
           test-sound t.store
           (reached-then world block env store t.store target_origin target_selectors reach place (holds_call value)
-          (λ quiet. expression-kept value quiet env s t v is ∙ from) leads) known v inside.0 inside.1
-          (forms-tell (ordinal_in world) value env s t v is numbers))
+          (λ quiet. expression-kept value quiet env s t v is ∙ from) leads) valued v inside.0 inside.1
+          (forms-tell (ordinal_in world) value env s t v is numbers) (given.steps (root_of target_origin) numbers))
 
   pub assignment-sound : (assignment : Assignment) → stmt_is_well_formed outline block (Assign assignment) ≡ true
       → statement_held (Assign assignment) ≡ true → statement_begins (Assign assignment) records ≡ true

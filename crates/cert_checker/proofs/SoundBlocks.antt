@@ -1,6 +1,6 @@
 -- The walk over each block of a program is sound, and so are calls, by the depth of activations in one another.
 use Rattle.std.proofs.Common.{arith, ◌≡◌, ⊎_elim, inl, inr, ◌∙◌, sym, ap, refl, subst, ℕ, zero, suc, ◌+◌, ◌<◌, Bool, true, false, cond, ◌&&◌, nat_eq}
-use Rattle.std.proofs.Common.{zero-add, ℤ, ◌||◌, pos, List, [], ◌∷◌, ◌++◌, Option, Some, None}
+use Rattle.std.proofs.Common.{zero-add, ℤ, ◌||◌, pos, List, [], ◌∷◌, ◌++◌, length, Option, Some, None}
 use Rattle.std.specs.Prelude.{◌≤◌, nat_lt, slice_get}
 use Rattle.std.specs.List.{Contains}
 use Rattle.types.specs.declared.form.Step.{Step}
@@ -18,7 +18,7 @@ use Rattle.typed_tree.specs.declared.tree.FunctionResult.{FunctionResult}
 use Rattle.typed_tree.specs.declared.tree.Tree.{Tree}
 use Rattle.typed_tree.specs.declared.tree.Variable.{Variable}
 use Rattle.typed_tree.proofs.Blocks.{are_loops_at}
-use Rattle.domain.specs.Facts.{Fact, Range, Defined, Order}
+use Rattle.domain.specs.Facts.{Fact, Range, Defined, Order, Grows}
 use Rattle.domain.specs.Interval.{Interval, common}
 use Rattle.meaning.specs.declared.store.Value.{Value}
 use Rattle.meaning.specs.declared.store.Value.TheVariants.{Number}
@@ -126,6 +126,7 @@ module _ (tree : Tree) (env : Environment) (store : Store) (claims : List Fact) 
       (in-map (λ r. claim.Range r range) named row (among-contains named row among))) steps v of_row value)
   claim-in (Defined path spans) listed known inside = inside
   claim-in (Order one other number) listed known inside = inside
+  claim-in (Grows one growth) listed known inside = inside
 
   -- a value lies where claims that hold say
   pub exit-in : (facts : List Fact) → ((one : Fact) → Contains facts one → Contains claims one) → (known : Interval) → IsIn known v
@@ -252,20 +253,21 @@ module _ (tree : Tree) (certificate : Certificate) (unbroken : (program_walk tre
         (unbroken-right used.broken given.broken (unbroken-right body.broken (used.broken ++ given.broken) (walked number block block_is).unbroken))
 
     -- the statement of a block, from where an activation of it begins
-    pub body-good : SpareControls tree calls → (ready : effect.State) → Fine tree ready → Proper tree world.pairs number ready.activations visible
+    pub body-good : visible.turns ≡ [] → SpareControls tree calls → (ready : effect.State) → Fine tree ready
+        → Proper tree world.pairs number ready.activations visible
         → Knows (parts_in world) (variables_in world) visible begun ready.store
         → Good world (Foretold world visible (within number) body ready.store) ready
         (effect_of block.body (record { visible = visible; records = []; calls = calls }) ready)
-    body-good spared ready fine proper known =
-        statement-sound world number block block_is visible calls laws sound spared
-        (hidden-controls tree well world.pairs pairs_known number) block.body (well-body tree well number block block_is)
+    body-good no_turns spared ready fine proper known =
+        statement-sound world number block block_is calls laws sound spared
+        (hidden-controls tree well world.pairs pairs_known number) visible block.body (well-body tree well number block block_is)
         (held-body tree well number block block_is) (begun-body tree well number block block_is)
         (record {
           roots = controls_but number 0 tree.blocks.items;
           spared = well.unthreatened number block block_is;
           loops = block-loops number block block_is;
           controls = λ root among. among;
-        }) (within number) begun ready (λ root among. refl) body-unbroken body-part
+        }) (within number) begun ready (record { control = λ root among. refl; deep = ap length no_turns }) body-unbroken body-part
         (record {
           block_is = refl;
           fine = fine;
@@ -447,7 +449,7 @@ module _ (tree : Tree) (certificate : Certificate) (unbroken : (program_walk tre
         let walked_body = body calls sound number block called.block_is callee in
         good-then world (Foretold world callee (within number) walked_body ready.store) AtEnd ready
         (effect_of block.body (record { visible = callee; records = []; calls = calls }) ready) (λ done. result_of block.heading.result callee)
-        (body-good calls sound number block called.block_is callee spared ready (ready-fine left) proper-here (known-here left))
+        (body-good calls sound number block called.block_is callee refl spared ready (ready-fine left) proper-here (known-here left))
         (λ done t is told.
         let passed = passed-left tree well certificate unbroken world.pairs calls leave number block arguments caller s called.from is_called ready t done
         refl is in

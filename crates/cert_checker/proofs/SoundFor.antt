@@ -1,6 +1,7 @@
 -- For statements are sound: in each turn the control variable lies on its way, and the body leaves it as it is.
 use Rattle.std.proofs.Common.{arith, ◌≡◌, ◌≢◌, ⊎_elim, ◌∙◌, sym, ap, refl, subst, ℕ, ◌<◌, ℤ, Bool, true, false, cond, ◌||◌}
-use Rattle.std.proofs.Common.{List, [], ◌∷◌, ◌++◌, Option, Some, None, nat_eq}
+use Rattle.std.proofs.Common.{List, [], ◌∷◌, ◌++◌, Option, Some, None, length, nat_eq}
+use Rattle.std.proofs.lemmas.List.{length-append}
 use Rattle.std.specs.Ordering.{int_eq}
 use Rattle.std.specs.Prelude.{◌≤◌}
 use Rattle.std.proofs.lemmas.Int.{ints}
@@ -16,13 +17,13 @@ use Rattle.typed_tree.specs.declared.tree.RangeTest.{RangeTest}
 use Rattle.domain.specs.Interval.{Interval, HasMember}
 use Rattle.checker_state.specs.Bounds.{Bound}
 use Rattle.meaning.specs.declared.store.Value.TheVariants.{Number}
-use Rattle.meaning.specs.Counting.{has_values, next_value, value_behind}
+use Rattle.meaning.specs.Counting.{has_values, next_value, value_behind, values_before}
 use Rattle.meaning.specs.Effect as effect
 use Rattle.meaning.specs.Effect.{Action, is_in}
 use Rattle.meaning.specs.Meaning as meaning
-use Rattle.meaning.specs.Meaning.{Surroundings}
+use Rattle.meaning.specs.Meaning.{Surroundings, within_for}
 use Rattle.meaning.specs.Laws.{state_after}
-use Rattle.meaning.specs.Store.{Environment, Place as StorePlace, Store, is_beginning, overlap, stored as stored_at, undefined, written}
+use Rattle.meaning.specs.Store.{Environment, Place as StorePlace, Store, inside_for, is_beginning, overlap, stored as stored_at, undefined, written}
 use Rattle.checker_state.specs.declared.value.Known.{Known}
 use Rattle.checker_rows.specs.Limits.{limits_of, row_limits}
 use Rattle.checker_rows.specs.Rows.{rows_of}
@@ -33,7 +34,13 @@ use Rattle.checker_state.proofs.Ranged.{is_in-limits, limits-is_in}
 use Rattle.checker_state.proofs.Assigned.{undefined-known}
 use Rattle.checker_state.proofs.Looped.{replaced-known}
 use Rattle.checker_state.specs.State.{State}
-use Rattle.checker_loops.specs.Loops.{Round, controls_inside, round_of, touched, with_own}
+use Rattle.checker_loops.specs.Growths.{Turns, all_can_begin, all_have_turned, depth_of, growths_begun}
+use Rattle.checker_loops.specs.Loops.{Round, claims_at, controls_inside, is_for_statement, round_of, touched, with_own}
+use Rattle.checker_loops.proofs.GrowthsTurned.{AreGrown, begins-grown, begun-grown, turned-grown}
+use Rattle.checker_state.specs.Growths.{without_turns}
+use Rattle.checker_state.proofs.Grown.{growths-hold}
+use Rattle.checker_expressions.specs.declared.fault.Rule.TheVariants.{LoopEntry, LoopTurn}
+use Rattle.domain.specs.Facts.{Fact}
 use Rattle.checker_state.specs.State.{table_of}
 use Rattle.checker_loops.proofs.Tabled.{are-rows}
 use Rattle.checker_loops.proofs.Touched.{all_control, inside-uncontrolled, inside-untouched, own-controls}
@@ -42,19 +49,19 @@ use Rattle.checker_loops.specs.Ways.{End, Way, entered, met, turn_begun, turn_en
 use Rattle.checker_loops.proofs.OnWay.{Between, MayBe, begun-known, counts-known, counts-ordered, entered-known, kept-may, met-in, next-between, ordered-itself}
 use Rattle.checker_loops.proofs.OnWay.{untouched-form}
 use Rattle.checker_loops.proofs.AliasedStores.{AreWritten, IsApart, all-pass, hidden-apart, one-kept}
-use Rattle.checker_calls.specs.Environments.{Fine, LiesUnder, Proper}
+use Rattle.checker_calls.specs.Environments.{Fine, LiesUnder, Proper, Typed}
 use Rattle.checker_calls.proofs.AliasedTypes.{declared, written-begun, written-typed}
 use Rattle.checker_calls.proofs.SeenAliases.{apart-seen, listed_pairs}
 use Rattle.checker_expressions.specs.Walk as flow
 use Rattle.checker_expressions.specs.Walk.{Context, Walked, Walking, followed}
 use Rattle.checker_expressions.proofs.Keeping.{Keeps, keeps-itself, keeps-then}
 use Rattle.checker_expressions.proofs.Sound.{Any_value, Good, Goes, Here, IsForetold, IsPartOf, Passes, Stands, World, good-give, good-then, good-weaker}
-use Rattle.checker_expressions.proofs.Sound.{here-behind, is_seen, nothing-new, part-left, part-right, parts_in, proper-grown, sites_in, stands-as}
+use Rattle.checker_expressions.proofs.Sound.{here-behind, is_seen, nothing-new, part-left, part-right, parts_in, proper-grown, sites_in, kept-rule}
 use Rattle.checker_expressions.proofs.Sound.{ordinal_in, unbroken-left, unbroken-right, variables_in}
 use Rattle.checker_expressions.proofs.SoundCalls.{in_world, by-world}
 use Rattle.checker_expressions.proofs.SoundOperations.{within-sound}
 use Rattle.cert_checker.specs.Walk as walk
-use Rattle.cert_checker.specs.Walk.{steady_in}
+use Rattle.cert_checker.specs.Walk.{steady_in, turns_in}
 use Rattle.cert_checker.proofs.Changes.{assigned-knows, ended-knows, number-lies_in, whole, whole-has, whole-typed, whole-written}
 use Rattle.cert_checker.proofs.Keeping.{gone-begun, gone-changes, gone-keeps, gone-none, gone-typed}
 use Rattle.cert_checker.proofs.Rounds.{StandsIn, goes-inside, loop-closed}
@@ -63,6 +70,9 @@ use Rattle.checker_expressions.proofs.EffectsKept.{Keeps as KeepsAt, lies-itself
 use Rattle.checker_state.proofs.Knows.{entire-value}
 use Rattle.cert_checker.proofs.SoundLoops.{AreControlled, AreFine, RoundEnds, SoundAmong, all-controls, here-as, inner, inner-controlled, loop-good}
 use Rattle.cert_checker.proofs.SoundLoops.{loop_begun, rounds-outer, rounds-own, turn-then, ways-good, with_head}
+use Rattle.cert_checker.proofs.FinishedTurns.{at-most, none-before, one-more}
+use Rattle.cert_checker.proofs.Integers.{ordinal-integers}
+use Rattle.cert_checker.proofs.Turned.{keeps-turned, proper-turned}
 use Rattle.cert_checker.proofs.Written.{Foretold}
 
 -- a number between two of a range lies in the range
@@ -135,6 +145,12 @@ pub record IsOwn (world : World) (block : ℕ) (env : Environment) (few : ℕ) (
   pub ordinal : ordinal_in world control ≡ true
   pub hidden : (alias : ℕ) → is_among alias (aliases_of world.pairs control) ≡ true → is_seen world block alias ≡ false
 
+-- that statement is sound, whatever turns are finished
+abbrev pub SoundInside : List ℕ → World → ℕ → Surroundings → meaning.Execution → Walking (Unit {0}) → Type 0
+SoundInside among world block env execution walking =
+    (finished : ℕ)
+    → SoundAmong {A = Unit {0}} {B = Unit {0}} among world block (inside_for env.visible finished) Any_value (execution (within_for env finished)) walking
+
 -- what the text tells of the control variable of a for statement: it is visible, and its aliases aren't, in each loop round the statement it controls
 -- one, and what is executed leaves it where it alone lies
 pub record IsControl (world : World) (block : ℕ) (env : Surroundings) (execution : meaning.Execution) (context : Context) (control : ℕ) : Type 0 where
@@ -142,7 +158,8 @@ pub record IsControl (world : World) (block : ℕ) (env : Surroundings) (executi
   pub ordinal : ordinal_in world control ≡ true
   pub hidden : (alias : ℕ) → is_among alias (aliases_of world.pairs control) ≡ true → is_seen world block alias ≡ false
   pub controls : all_control control context.rounds ≡ true
-  pub left : (place : StorePlace) → IsAlone place control env.visible → KeepsAt (watching place env.visible) (execution env)
+  pub left : (place : StorePlace) → IsAlone place control env.visible → (finished : ℕ)
+      → KeepsAt (watching place env.visible) (execution (within_for env finished))
 
 -- where no other variable shares a place, none lies over it
 alone-apart : (env : Environment) (control : ℕ) (home : StorePlace) → IsApart env control home [] → IsAlone home control env
@@ -218,8 +235,8 @@ module _ (world : World) (block : ℕ) (env : Environment) (few : ℕ) (control 
 
 module _ (world : World) (block : ℕ) (env : Surroundings)
     (head : ForHead) (in_table : StandsIn world block head.loop_number) (execution : meaning.Execution) (body : Walking (Unit {0}))
-    (among : List ℕ) (inside_are : controls_inside world.tree head.loop_number ≡ among)
-    (one : SoundAmong {A = Unit {0}} {B = Unit {0}} among world block env.visible Any_value (execution env) body) where
+    (among : List ℕ) (inside_are : controls_inside world.tree head.loop_number ≡ among) (kind : is_for_statement world.tree head.loop_number ≡ true)
+    (one : SoundInside among world block env execution body) where
   abbrev visible : Environment
   visible = env.visible
 
@@ -233,8 +250,9 @@ module _ (world : World) (block : ℕ) (env : Surroundings)
       (block_is : context.block ≡ block) (in_first : HasMember first.values x)
       (in_last : HasMember last.values y) (first_typed : HasMember (typed_values world head.control) x)
       (last_typed : HasMember (typed_values world head.control) y) (controls : all_control head.control context.rounds ≡ true)
-      (held : AreControlled among (inner context head.loop_number))
-      (left : KeepsAt (watching (home world block visible few head.control is_own) visible) (execution env)) where
+      (held : (finished : ℕ) → AreControlled among (inside_for visible finished) (inner context head.loop_number))
+      (deep : depth_of context.rounds ≡ length visible.turns) (tree_is : context.tree ≡ world.tree)
+      (left : (finished : ℕ) → KeepsAt (watching (home world block visible few head.control is_own) visible) (execution (within_for env finished))) where
     abbrev own_home : StorePlace
     own_home = home world block visible few head.control is_own
 
@@ -253,13 +271,26 @@ module _ (world : World) (block : ℕ) (env : Surroundings)
     abbrev steady : Way
     steady = steady_in context head.loop_number (way_between first last)
 
+    -- what its turns go by, and what is claimed
+    abbrev own_turns : Turns
+    own_turns = turns_in context head.loop_number (way_between first last)
+
+    abbrev facts : List Fact
+    facts = (claims_at context.claims head.loop_number).facts
+
+    -- behind so many turns variables have grown as is claimed
+    abbrev Grown : ℕ → Store → Type 0
+    Grown finished store = AreGrown world.tree visible store finished own_turns facts
+
     -- a turn begins where the control variable got a value
     abbrev at : ℤ → Store → Store
     at n store = numbered world block visible few head.control is_own n store
 
-    -- which lies on the way, whose bounds are what they were
+    -- which lies on the way, whose bounds are what they were; and the growths that are claimed hold
     abbrev Fits : ℤ → Store → Type 0
-    Fits n store = Between head.direction x y n × MayBe visible store steady.first.form x × MayBe visible store steady.last.form y
+    Fits n store =
+        Between head.direction x y n × MayBe visible store steady.first.form x × MayBe visible store steady.last.form y
+        × Grown (values_before head.direction x n) store
 
     at-number : (n : ℤ) (store : Store) → HasNumber (moment visible (at n store)) head.control n
     at-number n store = has-number world block visible few head.control is_own n store
@@ -285,7 +316,28 @@ module _ (world : World) (block : ℕ) (env : Surroundings)
           kept-may visible (touched own) own.controls before after last.form y own_kept other_may,
         )
 
-    module _ (n : ℤ) (start later : Store) (ended : State) (fits : Fits n start) (stands : Stands world visible within ended later)
+    -- inside the statement all is visible that is round it
+    abbrev inside_env : ℕ → Environment
+    inside_env finished = inside_for visible finished
+
+    abbrev proper-inside : (finished activations : ℕ) → Proper world.tree world.pairs block activations visible
+        → Proper world.tree world.pairs block activations (inside_env finished)
+    proper-inside finished activations proper =
+        proper-turned visible visible.turns (visible.turns ++ finished ∷ []) world.tree world.pairs block activations proper
+
+    abbrev own_inside : (finished : ℕ) → IsOwn world block (inside_env finished) few head.control
+    own_inside finished = record { proper = proper-inside finished few is_own.proper; seen = is_own.seen; ordinal = is_own.ordinal; hidden = is_own.hidden }
+
+    -- behind the turns nothing is told of them
+    outside-knows : (finished : ℕ) (state : State) (store : Store) → Knows (parts_in world) (variables_in world) (inside_env finished) state store
+        → Knows (parts_in world) (variables_in world) visible (without_turns own_turns.depth state) store
+    outside-knows finished state store known =
+        subst (λ (depth : ℕ). Knows (parts_in world) (variables_in world) visible (without_turns depth state) store) (sym deep)
+        (growths-hold.outside (parts_in world) (variables_in world) visible state store finished known)
+
+    module _ (n : ℤ) (start later : Store) (ended : State) (fits : Fits n start)
+        (stands : Stands world (inside_env (values_before head.direction x n)) within ended later)
+        (given : all_have_turned own_turns (turn_ended steady ended) facts ≡ true)
         (kept : Keeps visible within.rounds start later) (number_is : HasNumber (moment visible start) head.control n)
         (same_there : stored_at later own_home ≡ stored_at start own_home) where
       -- the body leaves the control variable as it is
@@ -299,11 +351,14 @@ module _ (world : World) (block : ℕ) (env : Surroundings)
           last-kept visible context.rounds own start later (rounds-outer visible context.rounds loop start later kept)
           (inside-kept visible head.control loop start later (rounds-own visible context.rounds loop start later kept))
 
+      abbrev finished : ℕ
+      finished = values_before head.direction x n
+
       abbrev again_state : State
-      again_state = turn_ended steady ended
+      again_state = without_turns own_turns.depth (turn_ended steady ended)
 
       abbrev out_state : State
-      out_state = way_out steady ended
+      out_state = way_out steady (without_turns own_turns.depth ended)
 
       abbrev Ends : Option ℤ → Type 0
       Ends more = RoundEnds world visible within rounds at Fits again_state out_state start more later
@@ -312,9 +367,11 @@ module _ (world : World) (block : ℕ) (env : Surroundings)
       round-out : n ≡ y → Ends None
       round-out same =
           let forms = later-forms start later body-kept (fits.1, fits.2) in (
-            stands-as world visible within ended out_state later stands
-                (replaced-known (parts_in world) (variables_in world) visible ended later head.control steady.last.form y
-                (subst (λ (m : ℤ). HasNumber (moment visible later) head.control m) same still) forms.1 stands.known),
+            record {
+              goes = stands.goes;
+              known = replaced-known (parts_in world) (variables_in world) visible (without_turns own_turns.depth ended) later head.control steady.last.form y
+                  (subst (λ (m : ℤ). HasNumber (moment visible later) head.control m) same still) forms.1 (outside-knows finished ended later stands.known);
+            },
             body-kept,
           )
 
@@ -324,16 +381,22 @@ module _ (world : World) (block : ℕ) (env : Surroundings)
           let m = next_value head.direction n in
           let next_kept = at-kept m later in
           let forms = later-forms later (at m later) next_kept (later-forms start later body-kept (fits.1, fits.2)) in
-          let between = next-between head.direction x y n fits.0 apart in (
-            record {
-              goes = stands.goes;
-              known = ended-knows world.tree visible steady ended later (at m later) x y n
-                  (is-variable world block visible few head.control is_own)
-                  (one-number world block visible few head.control is_own m later) still in_last fits.0
-                  apart forms.1 stands.known;
-            },
+          let between = next-between head.direction x y n fits.0 apart in
+          let inside = inside_env finished in
+          let own = own_inside finished in
+          let known : Knows (parts_in world) (variables_in world) inside (turn_ended steady ended) (at m later) =
+          ended-knows world.tree inside steady ended later (at m later) x y n (is-variable world block inside few head.control own)
+          (one-number world block inside few head.control own m later) still in_last fits.0 apart forms.1 stands.known in (
+            record { goes = stands.goes; known = outside-knows finished (turn_ended steady ended) (at m later) known },
             keeps-then visible rounds start later (at m later) body-kept next_kept,
-            (between, forms.0, forms.1),
+            (
+              between,
+              forms.0,
+              forms.1,
+              subst (λ (count : ℕ). Grown count (at m later)) (sym (one-more head.direction x y n fits.0))
+                  (turned-grown world.tree (parts_in world) (table_of world.tree) (are-rows world.tree) visible own_turns finished deep facts
+                  (turn_ended steady ended) (at m later) known given),
+            ),
           )
 
       round-ends : (b : Bool) → int_eq n y ≡ b → Ends (cond b None (Some (next_value head.direction n)))
@@ -341,34 +404,59 @@ module _ (world : World) (block : ℕ) (env : Surroundings)
       round-ends false is = round-again is
 
     -- the body leaves what lies where the control variable does
-    left-there : (v w : effect.State) (done : Unit {0}) → execution env v ≡ effect.Gives done w → few ≤ v.activations
-        → stored_at w.store own_home ≡ stored_at v.store own_home
-    left-there v w done is grown =
+    left-there : (finished : ℕ) (v w : effect.State) (done : Unit {0}) → execution (within_for env finished) v ≡ effect.Gives done w
+        → few ≤ v.activations → stored_at w.store own_home ≡ stored_at v.store own_home
+    left-there finished v w done is grown =
         let young = is_own.proper.begun head.control own_home (at_home world block visible few head.control is_own) in
-        let leaving = left.left v (omega (arith, young, grown)) in
+        let leaving = (left finished).left v (omega (arith, young, grown)) in
         sym (ap (λ (reply : effect.Reply (Unit {0})). stored_at (state_after reply).store own_home) is)
         ∙ ⊎_elim (λ over. absurd (over (lies-itself own_home))) (λ same. same) (leaving.leaves.values own_home (omega arith))
 
+    -- where a turn begins
+    turn-known : (state : State) (n : ℤ) (store : Store) → Typed world.tree (at n store) → Stands world visible within state (at n store) → Fits n (at n store)
+        → Knows (parts_in world) (variables_in world) (inside_env (values_before head.direction x n))
+        (growths_begun within.tree own_turns facts (turn_begun steady state)) (at n store)
+    turn-known state n store typed stands fits =
+        let rows = parts_in world in
+        let table = table_of world.tree in
+        let are = are-rows world.tree in
+        let start = at n store in
+        let finished = values_before head.direction x n in
+        let begun = turn_begun steady state in
+        subst (λ (tree : Tree). Knows rows (variables_in world) (inside_env finished) (growths_begun tree own_turns facts begun) start) (sym tree_is)
+        (begun-grown world.tree rows table are visible own_turns finished deep (at-most head.direction first.values last.values x y n in_first in_last fits.0)
+        facts begun start (ordinal-integers world.tree world.pairs block few visible start is_own.proper typed) fits.3
+        (growths-hold.inside rows (variables_in world) visible begun start finished
+        (begun-known rows table are visible start steady state x y n (at-number n store) in_first in_last fits.0 fits.1 fits.2 stands.known)))
+
     -- a round of a for
-    round-good : (state : State) (n : ℤ) (s : effect.State) → few ≤ s.activations → Fine world.tree s
-        → (walk.for_round steady body within state).broken ≡ []
-        → IsPartOf world (walk.for_round steady body within state) → Stands world visible within state (at n s.store) → Fits n (at n s.store)
-        → Good world (RoundEnds world visible within rounds at Fits (walk.for_round steady body within state).after
-        (walk.for_round steady body within state).value (at n s.store)) s (meaning.for_round head y execution env n s)
+    abbrev round_walk : Walking State
+    round_walk = walk.for_round own_turns head.place facts steady body
+
+    round-good : (state : State) (n : ℤ) (s : effect.State) → few ≤ s.activations → Fine world.tree s → (round_walk within state).broken ≡ []
+        → IsPartOf world (round_walk within state) → Stands world visible within state (at n s.store) → Fits n (at n s.store)
+        → Good world (RoundEnds world visible within rounds at Fits (round_walk within state).after
+        (round_walk within state).value (at n s.store)) s (meaning.for_round head x y execution env n s)
     round-good state n s grown fine unbroken part stands fits =
         let start = at n s.store in
-        let begun = turn_begun steady state in
+        let finished = values_before head.direction x n in
+        let inside = within_for env finished in
+        let begun = growths_begun within.tree own_turns facts (turn_begun steady state) in
         let turn : Walked (Unit {0}) = body within begun in
         let ended = turn.after in
-        let again = turn_ended steady ended in
-        let out = way_out steady ended in
-        let rest : Walked State = followed (flow.with_state again within ended) (flow.give out within again) in
+        let asks = flow.asked (all_have_turned own_turns (turn_ended steady ended) facts) LoopTurn head.place within (turn_ended steady ended) in
+        let over : Walked (Unit {0}) = walk.turn_to own_turns head.place facts steady within ended in
+        let out = way_out steady (without_turns own_turns.depth ended) in
+        let again = without_turns own_turns.depth (turn_ended steady ended) in
+        let rest : Walked State = followed over (flow.give out within again) in
+        let given = kept-rule (all_have_turned own_turns (turn_ended steady ended) facts) LoopTurn head.place
+        (unbroken-left asks.broken [] (unbroken-left over.broken [] (unbroken-right turn.broken (over.broken ++ []) unbroken))) in
         let P = RoundEnds world visible within rounds at Fits again out start in
         let more = value_behind head.direction y n in
-        let next = λ (used : Unit {0}). effect.◌>>=◌ (execution env) (λ done. effect.give more) in
-        let begun_stands = stands-as world visible within state begun start stands
-        (begun-known (parts_in world) (table_of world.tree) (are-rows world.tree) visible start steady state x y n (at-number n s.store) in_first in_last
-        fits.0 fits.1 fits.2 stands.known) in
+        let next = λ (used : Unit {0}). effect.◌>>=◌ (execution inside) (λ done. effect.give more) in
+        let typed = (at-fine n s grown fine fits).typed in
+        let begun_stands : Stands world inside.visible within begun start =
+        record { goes = stands.goes; known = turn-known state n s.store typed stands fits } in
         good-then world (λ (done : Unit {0}) store. store ≡ start) P s (effect.store (visible.variables head.control) (Number n) s)
         (λ written. effect.◌>>=◌ effect.use_turn next)
         (number-stored world block visible few head.control is_own n s grown fine (on-way n fits.0))
@@ -376,19 +464,23 @@ module _ (world : World) (block : ℕ) (env : Surroundings)
         turn-then world P next u stored.fine
         (λ used v same now later.
         let store_is : v.store ≡ start = same ∙ stored.so in
-        let here : Here world block visible within begun v = record {
+        let here : Here world block inside.visible within begun v = record {
           block_is = block_is;
           fine = now;
-          proper = proper-grown world block few v.activations visible (let behind = stored.grown in omega (arith, grown, behind, later)) is_own.proper;
-          stands = subst (Stands world visible within begun) (sym store_is) begun_stands;
+          proper = proper-inside finished v.activations
+              (proper-grown world block few v.activations visible (let behind = stored.grown in omega (arith, grown, behind, later)) is_own.proper);
+          stands = subst (Stands world inside.visible within begun) (sym store_is) begun_stands;
         } in
-        good-then world (Foretold world visible within turn v.store) P v (execution env v) (λ done. effect.give more)
-        (one within begun v held (unbroken-left turn.broken [] unbroken) (part-left world turn rest part) here)
+        good-then world (Foretold world inside.visible within turn v.store) P v (execution inside v) (λ done. effect.give more)
+        (one finished within begun v (held finished) (unbroken-left turn.broken (over.broken ++ []) unbroken) (part-left world turn rest part) here)
         (λ done w is told.
         good-give world P more w told.fine
-        (round-ends n start w.store ended fits told.so.stands (subst (λ (store : Store). Keeps visible within.rounds store w.store) store_is told.so.kept)
+        (round-ends n start w.store ended fits told.so.stands given
+        (subst (λ (store : Store). Keeps visible within.rounds store w.store) store_is
+        (keeps-turned visible (visible.turns ++ finished ∷ []) visible.turns within.rounds v.store w.store told.so.kept))
         (at-number n s.store)
-        (left-there v w done is (let behind = stored.grown in omega (arith, grown, behind, later)) ∙ ap (λ (store : Store). stored_at store own_home) store_is)
+        (left-there finished v w done is (let behind = stored.grown in omega (arith, grown, behind, later))
+        ∙ ap (λ (store : Store). stored_at store own_home) store_is)
         (int_eq n y) refl))))
 
   -- ---- from the tests of the bounds on
@@ -414,7 +506,7 @@ module _ (world : World) (block : ℕ) (env : Surroundings)
     way = way_of (ordinal_in world) head from to
 
     module _ (context : Context) (state : State) (x y : ℤ)
-        (text : IsControl world block env execution context head.control) (held : AreControlled among context)
+        (text : IsControl world block env execution context head.control) (held : AreControlled among visible context)
         (controls_are : AreEntire (parts_in world) (variables_in world) (all_in world head))
         (first_tested : IsTestFor world head.control head.first.fits) (last_tested : IsTestFor world head.control head.last.fits)
         (counts : has_values head.direction x y ≡ true) where
@@ -452,7 +544,7 @@ module _ (world : World) (block : ℕ) (env : Surroundings)
       Forms store = MayBe visible store way.first.form x × MayBe visible store way.last.form y
 
       abbrev rounds_action : Action (Unit {0})
-      rounds_action = effect.looped (meaning.for_round head y execution env) x
+      rounds_action = effect.looped (meaning.for_round head x y execution env) x
 
       -- the control variable gets its first value, and the rounds follow
       module _ (unbroken : turns.broken ≡ []) (part : IsPartOf world turns) (v : effect.State)
@@ -493,8 +585,9 @@ module _ (world : World) (block : ℕ) (env : Surroundings)
             Knows (parts_in world) (variables_in world) visible
             (walk.begin_way tested (record (in_world world context) { block = b }) last.after).after start)
             (sym here.block_is)
-            (assigned-knows tree pairs block few visible here.proper head.control place at_place (Number x) v.store start are typed first.value way.first.form
-            (entered tested last.after) in_first (may-of_form v.store way.first.form x forms.0)
+            (assigned-knows tree pairs block few visible here.proper head.control place at_place (Number x) v.store start are typed first.value
+            way.first.form None
+            (entered tested last.after) in_first (may-of_form v.store way.first.form x forms.0) tt
             (entered-known (parts_in world) (table_of world.tree) (are-rows world.tree) visible v.store tested last.after x y in_first in_last counts
             here.stands.known)))
 
@@ -504,15 +597,32 @@ module _ (world : World) (block : ℕ) (env : Surroundings)
             let controls = text.controls in
             let lies_at = home world block visible few head.control is_own in
             let left = text.left lies_at (alone-apart visible head.control lies_at (apart world block visible few head.control is_own)) in
-            let within = inner-controlled world context head.loop_number among here.stands.goes.tree_is inside_are held in
+            let tree_is = here.stands.goes.tree_is in
+            let deep = sym held.deep in
+            let within = λ (finished : ℕ).
+            inner-controlled world visible (inside_for visible finished) context head.loop_number among true tree_is inside_are kind
+            (length-append visible.turns (finished ∷ [])) held in
             let own = touched (with_own (Some head.control) (round_of context.tree context.pairs context.claims head.loop_number)) in
-            let begun_kept = at-kept context tested.first tested.last x y few is_own here.block_is in_first in_last x_typed y_typed controls within left x
+            let begun_kept = at-kept context tested.first tested.last x y few is_own here.block_is in_first in_last x_typed y_typed
+            controls within deep tree_is left x
             v.store in
-            let later = later-forms context tested.first tested.last x y few is_own here.block_is in_first in_last x_typed y_typed controls within left
+            let later = later-forms context tested.first tested.last x y few is_own here.block_is in_first in_last x_typed y_typed
+            controls within deep tree_is left
             v.store start begun_kept
             (untouched-form visible v.store own way.first.form x forms.0, untouched-form visible v.store own way.last.form y forms.1) in
             let start_stands : Stands world visible context begun.after start = record { goes = here.stands.goes; known = start-known } in
-            good-weaker world (Foretold world visible context turns start) (Foretold world visible context turns v.store) v (rounds_action v)
+            let number = head.loop_number in
+            let facts = (claims_at context.claims number).facts in
+            let entry = walk.growths_entered head.place facts context begun.after in
+            let round = walk.for_round (turns_in context number tested) head.place facts (steady_in context number tested) body in
+            let loop = walk.loop_walk number head.place (Some head.control) round context begun.after in
+            let given = kept-rule (all_can_begin begun.after facts) LoopEntry head.place (unbroken-left entry.broken loop.broken unbroken) in
+            let typed = (number-fine world block visible few head.control is_own x v (omega arith) here.fine x_typed).typed in
+            let begins = begins-grown world.tree (parts_in world) (table_of world.tree) (are-rows world.tree) visible (turns_in context number tested) facts
+            begun.after start (ordinal-integers world.tree world.pairs block few visible start is_own.proper typed) start-known given in
+            let first_grown = subst (λ (count : ℕ). AreGrown world.tree visible start count (turns_in context number tested) facts)
+            (sym (none-before head.direction x)) begins in
+            good-weaker world (Foretold world visible context loop start) (Foretold world visible context turns v.store) v (rounds_action v)
             (λ done w is told. record {
               tie = tt;
               stands = told.so.stands;
@@ -522,18 +632,20 @@ module _ (world : World) (block : ℕ) (env : Surroundings)
                   begun_kept)
                   told.so.kept;
             })
-            (loop-good world block visible head.loop_number head.place (Some head.control) (meaning.for_round head y execution env)
-            (walk.for_round (steady_in context head.loop_number tested) body)
-            (at context tested.first tested.last x y few is_own here.block_is in_first in_last x_typed y_typed controls within left)
-            (Fits context tested.first tested.last x y few is_own here.block_is in_first in_last x_typed y_typed controls within left) context begun.after x v
-            (at-fine context tested.first tested.last x y few is_own here.block_is in_first in_last x_typed y_typed controls within left)
+            (loop-good world block visible head.loop_number head.place (Some head.control) (meaning.for_round head x y execution env)
+            round
+            (at context tested.first tested.last x y few is_own here.block_is in_first in_last x_typed y_typed controls within deep tree_is left)
+            (Fits context tested.first tested.last x y few is_own here.block_is in_first in_last x_typed y_typed controls within deep tree_is left)
+            context begun.after x v
+            (at-fine context tested.first tested.last x y few is_own here.block_is in_first in_last x_typed y_typed controls within deep tree_is left)
             (goes-in context last.after v here)
             (subst (λ (tree : Tree). AreEntire (parts_in world) (variables_in world) (head.control ∷ controls_inside tree head.loop_number))
             (sym here.stands.goes.tree_is) controls_are)
             (λ n t grown fine unbroken part stands fits.
-            round-good context tested.first tested.last x y few is_own here.block_is in_first in_last x_typed y_typed controls within left
+            round-good context tested.first tested.last x y few is_own here.block_is in_first in_last x_typed y_typed controls within deep tree_is left
             (loop_begun context head.loop_number (Some head.control) begun.after) n t grown fine unbroken part stands fits)
-            unbroken part here.fine here.proper start_stands ((ordered-itself head.direction x, counts-ordered head.direction x y counts), later.0, later.1))
+            (unbroken-right entry.broken loop.broken unbroken) (part-right world entry loop part) here.fine here.proper start_stands
+            ((ordered-itself head.direction x, counts-ordered head.direction x y counts), later.0, later.1, first_grown))
 
       required-same : (test : Bool) (site : ℕ) (s t : effect.State) (done : Unit {0}) → effect.require test site s ≡ effect.Gives done t
           → (test ≡ true) × (s ≡ t)
@@ -612,7 +724,7 @@ module _ (world : World) (block : ℕ) (env : Surroundings)
     -- ---- the whole statement, from the values of its bounds
 
     module _ (context : Context) (state : State) (x y : ℤ)
-        (text : IsControl world block env execution context head.control) (held : AreControlled among context)
+        (text : IsControl world block env execution context head.control) (held : AreControlled among visible context)
         (controls_are : AreEntire (parts_in world) (variables_in world) (all_in world head))
         (first_tested : IsTestFor world head.control head.first.fits) (last_tested : IsTestFor world head.control head.last.fits) where
       abbrev where_so : Bool → State

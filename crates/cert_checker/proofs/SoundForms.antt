@@ -27,7 +27,7 @@ use Rattle.typed_tree.specs.Calls.{holds_call}
 use Rattle.typed_tree.specs.Kinds.{is_held_parameter, is_held_record, is_held_stmt, is_ordinal_expr, statement_held}
 use Rattle.typed_tree.specs.Records.{Begin, OpenRecord, all_begin, begins, begins_in, parameter_begins, statement_begins, with_begins}
 use Rattle.typed_tree.specs.declared.tree.Block.{Block}
-use Rattle.typed_tree.specs.Loops.{AreLoops, Inside, IsLoop, all_inside, both_inside, inside_of, no_loop, statement_inside}
+use Rattle.typed_tree.specs.Loops.{AreLoops, Inside, IsLoop, LoopControls, all_inside, both_inside, inside_of, no_loop, statement_inside}
 use Rattle.typed_tree.specs.Loops.{controls_of as block_controls}
 use Rattle.typed_tree.specs.Threats.{Spares, all_so, all_spare, is_none_of, spares, spares_in_expr, spares_in_record, statement_spares}
 use Rattle.typed_tree.specs.WellFormed.{Outline, all_hold, are_whole, is_control, is_declared, is_local_kind, is_well_formed_expr, is_well_formed_parameter}
@@ -39,10 +39,10 @@ use Rattle.domain.proofs.Numbers.{among-hull, covered-among}
 use Rattle.meaning.specs.declared.store.Value.{Value}
 use Rattle.meaning.specs.declared.store.Value.TheVariants.{Members, Number}
 use Rattle.meaning.specs.Kinds.{IsOf}
-use Rattle.meaning.specs.Store.{Environment, Place as StorePlace, Store}
+use Rattle.meaning.specs.Store.{Environment, Place as StorePlace, Store, inside_for}
 use Rattle.meaning.specs.Effect as effect
 use Rattle.meaning.specs.Meaning as meaning
-use Rattle.meaning.specs.Meaning.{Calls, Execution, Surroundings, effect_of, is_so, parameter_of, value_of}
+use Rattle.meaning.specs.Meaning.{Calls, Execution, Surroundings, effect_of, is_so, parameter_of, value_of, within_for}
 use Rattle.checker_state.specs.declared.value.Known.{Known}
 use Rattle.checker_state.specs.declared.value.Known.TheVariants.{Ordinal, Set}
 use Rattle.checker_state.specs.Conditions.{bound_form, condition_of}
@@ -60,7 +60,7 @@ use Rattle.checker_state.proofs.Ranged.{common-in}
 use Rattle.checker_state.proofs.Refined.{expression-kept, forms-tell}
 use Rattle.checker_state.specs.Joins.{joined_states}
 use Rattle.checker_loops.specs.Cases.{at_constants, constants_before}
-use Rattle.checker_loops.specs.Loops.{controls_inside, controls_of}
+use Rattle.checker_loops.specs.Loops.{controls_inside, is_for_statement}
 use Rattle.checker_state.specs.State.{table_of}
 use Rattle.checker_loops.proofs.Tabled.{are-rows}
 use Rattle.checker_loops.specs.Pairs.{aliases_of}
@@ -77,22 +77,23 @@ use Rattle.checker_expressions.proofs.SoundCalls.{CallLaws}
 use Rattle.checker_expressions.proofs.SoundExpressions.{SoundAction, parameter-sound, procedure-sound, value-sound}
 use Rattle.cert_checker.specs.Walk as walk
 use Rattle.cert_checker.specs.Walk.{statement_walk}
-use Rattle.cert_checker.proofs.Controls.{AreOrdinal, all-ordinal, control-ordinal, control-seen, controls-ordinal, inside-ordinal, loops-parts}
-use Rattle.cert_checker.proofs.Controls.{one-ordinal, control-declared, ordinal-entire}
+use Rattle.cert_checker.proofs.Controls.{AreOrdinal, all-ordinal, control-ordinal, control-seen, controls-ordinal, inside-ordinal, inside-told}
+use Rattle.cert_checker.proofs.Controls.{kind-told, loops-parts, one-ordinal, control-declared, ordinal-entire}
 use Rattle.cert_checker.proofs.SoundAssignments.{assigned, assignment-sound, entire-lies, has_type, passed-typed, site-within, tests-number}
 use Rattle.cert_checker.proofs.SoundCase.{arm-missing, arms-behind, at-constants_known, entire-number, first-constants}
 use Rattle.cert_checker.proofs.SoundCopies.{copied, copying-sound}
-use Rattle.cert_checker.proofs.SoundFor.{IsControl, IsTestFor, for-good}
+use Rattle.cert_checker.proofs.SoundFor.{IsControl, IsTestFor, SoundInside, for-good}
 use Rattle.cert_checker.proofs.SoundReads.{reading-sound}
 use Rattle.cert_checker.proofs.SparedCalls.{Controls, IsAlone, SpareControls}
 use Rattle.cert_checker.proofs.SparedText.{MayChangeOthers, text-kept}
-use Rattle.checker_expressions.proofs.EffectsKept.{watching}
+use Rattle.checker_expressions.proofs.EffectsKept.{keeps-turned, watching}
 use Rattle.checker_loops.proofs.Touched.{all_control}
 use Rattle.cert_checker.proofs.Rounds.{StandsIn}
 use Rattle.cert_checker.proofs.SoundLoops.{AreControlled, SoundAmong, among-by_tree, here-as, joined-other, numbers-here, sound-choice, sound-loop}
 use Rattle.cert_checker.proofs.SoundLoops.{sound-repeat, sound-while}
 use Rattle.cert_checker.proofs.OpenedBehind.{behind, with-begun}
 use Rattle.cert_checker.proofs.SoundWith.{among-after, lie-open, opened-sound}
+use Rattle.cert_checker.proofs.Turned.{open-turned}
 use Rattle.cert_checker.proofs.Written.{Foretold}
 
 -- one of two actions, by a truth value
@@ -134,7 +135,7 @@ among-more : (controls more : List ℕ) (world : World) (block : ℕ) (env : Env
     → SoundAmong {A = Unit {0}} {B = Unit {0}} controls world block env Any_value action walking
     → SoundAmong {A = Unit {0}} {B = Unit {0}} more world block env Any_value action walking
 among-more controls more world block env action walking inside one context state s held unbroken part here =
-    one context state s (λ root among. held root (inside root among)) unbroken part here
+    one context state s (record { control = λ root among. held.control root (inside root among); deep = held.deep }) unbroken part here
 
 among-then : (controls : List ℕ) (world : World) (block : ℕ) (env : Environment) (action next : effect.Action (Unit {0}))
     (walking walk_next : Walking (Unit {0})) → SoundAmong {A = Unit {0}} {B = Unit {0}} controls world block env Any_value action walking
@@ -158,7 +159,7 @@ among-then controls world block env action next walking walk_next one two contex
     (here-behind {B = Unit {0}} world block env Any_value context state first s t done here told)))
 
 module _ (world : World) (block : ℕ) (own_block : Block)
-    (own_is : slice_get world.tree.blocks.items block ≡ Some own_block) (visible : Environment) (does : Calls)
+    (own_is : slice_get world.tree.blocks.items block ≡ Some own_block) (does : Calls)
     (laws : CallLaws world) (calls : SoundCalls world does) (spared_by : SpareControls world.tree does)
     (hidden : (control alias : ℕ) → is_control (outline_of world.tree) block control ≡ true → is_among alias (aliases_of world.pairs control) ≡ true
     → is_seen world block alias ≡ false) where
@@ -169,8 +170,8 @@ module _ (world : World) (block : ℕ) (own_block : Block)
   well_expr = is_well_formed_expr outline block
 
   -- where a statement stands, with records that are open at these places
-  abbrev around : List (Option StorePlace) → Surroundings
-  around places = record { visible = visible; records = places; calls = does }
+  abbrev around : Environment → List (Option StorePlace) → Surroundings
+  around visible places = record { visible = visible; records = places; calls = does }
 
   -- ---- statements
 
@@ -233,11 +234,12 @@ module _ (world : World) (block : ℕ) (own_block : Block)
     held : told.held ≡ true
     begin : told.begin records ≡ true
 
-  -- those that are so, wherever records are open
+  -- those that are so, wherever records are open, whatever is visible
   abbrev SoundStatement : Told → Inside → Spares → Execution → Walking (Unit {0}) → Type 0
   SoundStatement told inside so execution walking =
-      (records : List OpenRecord) (places : List (Option StorePlace)) → AreOpen world block visible records places → IsSo told records → Text inside so
-      → SoundAmong {A = Unit {0}} {B = Unit {0}} inside.controls world block visible Any_value (execution (around places)) walking
+      (visible : Environment) (records : List OpenRecord) (places : List (Option StorePlace)) → AreOpen world block visible records places
+      → IsSo told records → Text inside so
+      → SoundAmong {A = Unit {0}} {B = Unit {0}} inside.controls world block visible Any_value (execution (around visible places)) walking
 
   abbrev StatementIsSound : Stmt → Type 0
   StatementIsSound s = SoundStatement (told_of s) (inside_of s) (spares s) (effect_of s) (statement_walk s)
@@ -270,9 +272,9 @@ module _ (world : World) (block : ℕ) (own_block : Block)
     begin = statement_begins (map-Stmt Stmt Begin begins_in x);
   }
 
-  module _ (records : List OpenRecord) (places : List (Option StorePlace)) (opened : AreOpen world block visible records places) where
+  module _ (visible : Environment) (records : List OpenRecord) (places : List (Option StorePlace)) (opened : AreOpen world block visible records places) where
     abbrev env : Surroundings
-    env = around places
+    env = around visible places
 
     -- ---- values that are written
 
@@ -307,7 +309,14 @@ module _ (world : World) (block : ℕ) (own_block : Block)
 
     one-sound : (statement : ProvedStmt) → SoundHere (told_of statement.0) (inside_of statement.0) (spares statement.0) (effect_of statement.0)
         (statement_walk statement.0)
-    one-sound statement is text = statement.1 records places opened is text
+    one-sound statement is text = statement.1 visible records places opened is text
+
+    -- in a turn of a for
+    one-inside : (statement : ProvedStmt) → IsSo (told_of statement.0) records → Text (inside_of statement.0) (spares statement.0)
+        → SoundInside (inside_of statement.0).controls world block env (effect_of statement.0) (statement_walk statement.0)
+    one-inside statement is text finished =
+        let inner = inside_for visible finished in
+        statement.1 inner records places (open-turned visible visible.turns inner.turns world block records places opened) is text
 
     all-sound : (statements : List ProvedStmt)
         → SoundHere (told_all (bodies statements)) (all_inside (map inside_of (bodies statements))) (all_spare (map spares (bodies statements)))
@@ -329,10 +338,10 @@ module _ (world : World) (block : ℕ) (own_block : Block)
         (walk.all_of (map statement_walk later)) (λ root. among-right root first.controls others.controls) (all-sound statements parts.1 own.1))
 
     -- the control variables inside a loop have no rows
-    inside-entire : (number : ℕ) (controls : List ℕ) → AreOrdinal world.tree controls → IsLoop world.tree.loops.items block (number, controls)
+    inside-entire : (number : ℕ) (told : LoopControls) → AreOrdinal world.tree told.inside → IsLoop world.tree.loops.items block (number, told)
         → AreEntire (parts_in world) (variables_in world) (controls_inside world.tree number)
-    inside-entire number controls ordinal is =
-        ordinal-entire world.tree (controls_inside world.tree number) (inside-ordinal world.tree block number controls ordinal is)
+    inside-entire number told ordinal is =
+        ordinal-entire world.tree (controls_inside world.tree number) (inside-ordinal world.tree block number told ordinal is)
 
     -- an expression that is an ordinal
     ordinal-sound : (e : Expr) → well_expr e ≡ true → is_ordinal_expr e ≡ true → begins e records ≡ true
@@ -388,31 +397,31 @@ module _ (world : World) (block : ℕ) (own_block : Block)
     walked_bounds tree head walking from to = walk.for_walk head walking (way_of (is_ordinal_variable tree) head from to)
 
     bounds-good : (head : ForHead) (execution : Execution) (walking : Walking (Unit {0})) (among : List ℕ)
-        → controls_inside world.tree head.loop_number ≡ among
-        → SoundAmong {A = Unit {0}} {B = Unit {0}} among world block visible Any_value (execution env) walking
+        → controls_inside world.tree head.loop_number ≡ among → is_for_statement world.tree head.loop_number ≡ true
+        → SoundInside among world block env execution walking
         → AreEntire (parts_in world) (variables_in world) (head.control ∷ controls_inside world.tree head.loop_number) → StandsIn world block head.loop_number
         → IsTestFor world head.control head.first.fits → IsTestFor world head.control head.last.fits
         → (from to : Known) (a b : Value) (context : Context) (state : State) (t : effect.State)
-        → IsControl world block env execution context head.control → AreControlled among context
+        → IsControl world block env execution context head.control → AreControlled among visible context
         → (walked_bounds world.tree head walking from to context state).broken ≡ []
         → IsPartOf world (walked_bounds world.tree head walking from to context state)
         → Here world block visible context state t → IsOfForm (moment visible t.store) (form_before (ordinal_in world) head.first.value head.last.value) a
         → IsOfForm (moment visible t.store) (bound_form (ordinal_in world) head.last.value) b → IsHeld scalar.Ordinal from a t.store
         → IsHeld scalar.Ordinal to b t.store
         → Good world (Foretold world visible context (walked_bounds world.tree head walking from to context state) t.store) t (from_bounds head execution a b t)
-    bounds-good head execution walking among inside_are one controls_are stands first_tested last_tested (Ordinal from) (Ordinal to)
+    bounds-good head execution walking among inside_are kind one controls_are stands first_tested last_tested (Ordinal from) (Ordinal to)
         (Number x) (Number y) context state t text held unbroken part here first_form last_form in_first in_last =
-        for-good world block env head stands execution walking among inside_are one (Ordinal from) (Ordinal to) context state
+        for-good world block env head stands execution walking among inside_are kind one (Ordinal from) (Ordinal to) context state
         x y text held controls_are first_tested last_tested t unbroken part here
         (of-form_may visible t.store (form_before (ordinal_in world) head.first.value head.last.value) x first_form)
         (of-form_may visible t.store (bound_form (ordinal_in world) head.last.value) y last_form) in_first.0 in_last.0
-    bounds-good head execution walking among inside_are one controls_are stands first_tested last_tested (Ordinal from) (Ordinal to)
+    bounds-good head execution walking among inside_are kind one controls_are stands first_tested last_tested (Ordinal from) (Ordinal to)
         (Number x) (Members set) context state t text held unbroken part here first_form last_form in_first in_last = absurd in_last.0
-    bounds-good head execution walking among inside_are one controls_are stands first_tested last_tested (Ordinal from) (Ordinal to)
+    bounds-good head execution walking among inside_are kind one controls_are stands first_tested last_tested (Ordinal from) (Ordinal to)
         (Members set) b context state t text held unbroken part here first_form last_form in_first in_last = absurd in_first.0
-    bounds-good head execution walking among inside_are one controls_are stands first_tested last_tested (Ordinal from) (Set hull)
+    bounds-good head execution walking among inside_are kind one controls_are stands first_tested last_tested (Ordinal from) (Set hull)
         a b context state t text held unbroken part here first_form last_form in_first in_last = absurd (let other = in_last.1 in cc)
-    bounds-good head execution walking among inside_are one controls_are stands first_tested last_tested (Set hull) to
+    bounds-good head execution walking among inside_are kind one controls_are stands first_tested last_tested (Set hull) to
         a b context state t text held unbroken part here first_form last_form in_first in_last = absurd (let other = in_first.1 in cc)
 
     -- the form of the first bound behind the last
@@ -426,8 +435,8 @@ module _ (world : World) (block : ℕ) (own_block : Block)
         by false is = subst (λ (store : Store). IsOfForm (moment visible store) (bound_form (ordinal_in world) first) a) (sym (stays is)) of_form
 
     module _ (head : ForHead) (execution : Execution) (walking : Walking (Unit {0})) (among : List ℕ)
-        (inside_are : controls_inside world.tree head.loop_number ≡ among)
-        (one : SoundAmong {A = Unit {0}} {B = Unit {0}} among world block visible Any_value (execution env) walking)
+        (inside_are : controls_inside world.tree head.loop_number ≡ among) (kind : is_for_statement world.tree head.loop_number ≡ true)
+        (one : SoundInside among world block env execution walking)
         (text : (context : Context) → all_control head.control context.rounds ≡ true → IsControl world block env execution context head.control)
         (controls_are : AreEntire (parts_in world) (variables_in world) (head.control ∷ controls_inside world.tree head.loop_number))
         (stands : StandsIn world block head.loop_number)
@@ -449,8 +458,9 @@ module _ (world : World) (block : ℕ) (own_block : Block)
           let control = head.control in
           let first = head.first.value in
           let last = head.last.value in
-          let own_held = held control (or_left (nat_eq control control) (is_among control among) (eq-eqb control control refl)) in
-          let inside_held : AreControlled among context = λ root is. held root (or_right (nat_eq control root) (is_among root among) is) in
+          let own_held = held.control control (or_left (nat_eq control control) (is_among control among) (eq-eqb control control refl)) in
+          let inside_held : AreControlled among visible context =
+          record { control = λ root is. held.control root (or_right (nat_eq control root) (is_among root among) is); deep = held.deep } in
           let from = value_walk first context state in
           let to = value_walk last context from.after in
           let rest = walked_bounds world.tree head walking from.value to.value context to.after in
@@ -477,7 +487,7 @@ module _ (world : World) (block : ℕ) (own_block : Block)
             kept = keeps-then visible context.rounds s.store t.store w.store first_told.so.kept
                 (keeps-then visible context.rounds t.store u.store w.store last_told.so.kept then.so.kept);
           })
-          (bounds-good head execution walking among inside_are one controls_are stands first_tested last_tested from.value to.value a b context to.after u
+          (bounds-good head execution walking among inside_are kind one controls_are stands first_tested last_tested from.value to.value a b context to.after u
           (text context own_held) inside_held (unbroken-right to.broken rest.broken more_unbroken) (part-right world to rest more_part) here_last form
           (forms-tell (ordinal_in world) last env t u b last_is (numbers-here world block visible context to.after u here_last)) first_told.so.tie
           last_told.so.tie)))
@@ -496,7 +506,7 @@ module _ (world : World) (block : ℕ) (own_block : Block)
     arms-good : (site : ℕ) (base : State) (index : Option ℕ) (n : ℤ) (context : Context) (t : effect.State) → Here world block visible context base t
         → ((root : ℕ) → index ≡ Some root → HasNumber (moment visible t.store) root n) → (rows : List (Vec ℤ Global)) (arms : List ProvedStmt) (behind : State)
         → IsSo (told_all (bodies arms)) records → Text (all_inside (map inside_of (bodies arms))) (all_spare (map spares (bodies arms)))
-        → AreControlled (all_inside (map inside_of (bodies arms))).controls context → (arms_walked base index rows arms context behind).broken ≡ []
+        → AreControlled (all_inside (map inside_of (bodies arms))).controls visible context → (arms_walked base index rows arms context behind).broken ≡ []
         → IsPartOf world (arms_walked base index rows arms context behind) → meaning.is_among (constants_before (length (bodies arms)) rows) n ≡ true
         → Good world (Foretold world visible context (arms_walked base index rows arms context behind) t.store) t
         (meaning.arm_of site rows (map effect_of (bodies arms)) n env t)
@@ -530,7 +540,8 @@ module _ (world : World) (block : ℕ) (own_block : Block)
               (joined-other world visible context behind first.after u.store (numbers-at u told.fine) told.so.stands))).known;
           kept = told.so.kept;
         })
-        (one-sound arm parts.0 text_parts.0 context start t (λ root is. held root (among-left root first_inside.controls others_inside.controls is))
+        (one-sound arm parts.0 text_parts.0 context start t
+        (record { control = λ root is. held.control root (among-left root first_inside.controls others_inside.controls is); deep = held.deep })
         (unbroken-left first.broken rest.broken unbroken) first_part
         (here-as world block visible context base start t here
         (at-constants_known (parts_in world) (table_of world.tree) (are-rows world.tree) visible t.store index row.items base n has is here.stands.known))))
@@ -538,7 +549,7 @@ module _ (world : World) (block : ℕ) (own_block : Block)
         good-weaker world (Foretold world visible context rest t.store) (Foretold world visible context whole t.store) t (others t)
         (λ done u gives told. record { tie = tt; stands = told.so.stands; kept = told.so.kept })
         (arms-good site base index n context t here has rows arms (joined_states (table_of context.tree) behind first.after) parts.1 text_parts.1
-        (λ root is. held root (among-right root first_inside.controls others_inside.controls is))
+        (record { control = λ root is. held.control root (among-right root first_inside.controls others_inside.controls is); deep = held.deep })
         (unbroken-right first.broken rest.broken unbroken)
         (part-right world met rest part)
         (only-other (meaning.is_among row.items n) (meaning.is_among (constants_before (length (bodies arms)) rows) n) isnt
@@ -554,7 +565,8 @@ module _ (world : World) (block : ℕ) (own_block : Block)
     case-good : (head : CaseHead) (arms : List ProvedStmt) (known : Known) (v : Value) (context : Context) (state : State)
         (t : effect.State) → head.site < sites_in world → IsSo (told_all (bodies arms)) records
         → Text (all_inside (map inside_of (bodies arms))) (all_spare (map spares (bodies arms)))
-        → AreControlled (all_inside (map inside_of (bodies arms))).controls context → (walked_index world.tree head arms known context state).broken ≡ []
+        → AreControlled (all_inside (map inside_of (bodies arms))).controls visible context
+        → (walked_index world.tree head arms known context state).broken ≡ []
         → IsPartOf world (walked_index world.tree head arms known context state) → Here world block visible context state t
         → IsOfForm (moment visible t.store) (bound_form (ordinal_in world) head.index) v → IsHeld scalar.Ordinal known v t.store
         → Good world (Foretold world visible context (walked_index world.tree head arms known context state) t.store) t (from_index head arms v t)
@@ -728,6 +740,7 @@ module _ (world : World) (block : ℕ) (own_block : Block)
         let walked = λ (tree : Tree). walk.while_round tree head.condition (statement_walk body.value.0) in
         let inside = inside_of body.value.0 in
         let loop = text.loops.0 in
+        let told : LoopControls = record { own = None; inside = inside.controls } in
         let own : Text inside (spares body.value.0) = record {
           roots = text.roots;
           spared = (and_parts (spares_in_expr text.roots head.condition) (spares body.value.0 text.roots) text.spared).1;
@@ -739,8 +752,8 @@ module _ (world : World) (block : ℕ) (own_block : Block)
         (among-by_tree inside.controls world block visible (effect.looped round tt)
         (λ (tree : Tree). walk.loop_walk head.loop_number head.place None (walked tree))
         (sound-loop inside.controls world block visible head.loop_number head.place round tt (walked world.tree)
-        (inside-entire head.loop_number inside.controls (controls-ordinal world.tree block body.value.0 parts.1) loop)
-        (loop.0, loop.1, loop.2) (ap controls_of loop.1 ∙ loop.3)
+        (inside-entire head.loop_number told (controls-ordinal world.tree block body.value.0 parts.1) loop)
+        (loop.0, loop.1, loop.2) (inside-told world.tree block head.loop_number told loop) (kind-told world.tree block head.loop_number told loop)
         (λ a. sound-while inside.controls world block env head.condition (effect_of body.value.0) (statement_walk body.value.0)
         (ordinal-sound head.condition parts.0 kinds.0 there.0)
         (one-sound body.value (record { well = parts.1; held = kinds.1; begin = there.1 }) own))))
@@ -755,6 +768,7 @@ module _ (world : World) (block : ℕ) (own_block : Block)
         let walked = λ (tree : Tree). walk.repeat_round tree turned head.condition in
         let inside = all_inside (map inside_of inner) in
         let loop = text.loops.0 in
+        let told : LoopControls = record { own = None; inside = inside.controls } in
         let own : Text inside (all_spare (map spares inner)) = record {
           roots = text.roots;
           spared = (and_parts (all_spare (map spares inner) text.roots) (spares_in_expr text.roots head.condition) text.spared).0;
@@ -766,8 +780,8 @@ module _ (world : World) (block : ℕ) (own_block : Block)
         (among-by_tree inside.controls world block visible (effect.looped round tt)
         (λ (tree : Tree). walk.loop_walk head.loop_number head.place None (walked tree))
         (sound-loop inside.controls world block visible head.loop_number head.place round tt (walked world.tree)
-        (inside-entire head.loop_number inside.controls (all-ordinal world.tree block inner parts.0) loop)
-        (loop.0, loop.1, loop.2) (ap controls_of loop.1 ∙ loop.3)
+        (inside-entire head.loop_number told (all-ordinal world.tree block inner parts.0) loop)
+        (loop.0, loop.1, loop.2) (inside-told world.tree block head.loop_number told loop) (kind-told world.tree block head.loop_number told loop)
         (λ a. sound-repeat inside.controls world block env head.condition body turned
         (all-sound statements.items (record { well = parts.0; held = kinds.0; begin = there.0 }) own)
         (ordinal-sound head.condition parts.1 kinds.1 there.1))))
@@ -792,6 +806,7 @@ module _ (world : World) (block : ℕ) (own_block : Block)
         let execution = effect_of body.value.0 in
         let inside = inside_of body.value.0 in
         let loop = text.loops.0 in
+        let told : LoopControls = record { own = Some control; inside = inside.controls } in
         let so = λ (roots : List ℕ). spares body.value.0 (control ∷ roots) in
         let so_one = and_parts (is_none_of text.roots control)
         (spares_in_expr text.roots first.value && (spares_in_expr text.roots last.value && so text.roots)) text.spared in
@@ -818,20 +833,25 @@ module _ (world : World) (block : ℕ) (own_block : Block)
           ordinal = control-ordinal world.tree block control one.0;
           hidden = λ alias among. hidden control alias one.0 among;
           controls = all;
-          left = λ place alone.
-              text-kept (watching place visible) does (spared_by block control controls place visible alone) outline block refl body.value.0 records places
+          left = λ place alone finished.
+              let inner = within_for env finished in
+              keeps-turned (watching place visible) visible.turns inner.visible.turns (execution inner)
+              (text-kept (watching place visible) does
+              (λ turns. spared_by block control controls place (record visible { turns = turns }) alone) outline block refl body.value.0
+              inner.visible.turns records places
               (lie-open world block visible records places opened) five.1 more_there.1 (control ∷ text.roots)
-              (others-alone place control text.roots visible alone) so_three.1;
+              (others-alone place control text.roots visible alone) so_three.1);
         } in
         entered-among (control ∷ inside.controls) head.number
         (effect.◌>>=◌ (value_of first.value env) (λ a. effect.◌>>=◌ (value_of last.value env) (from_bounds head execution a)))
         (flow.◌>>=◌ (value_walk first.value)
         (λ from. flow.◌>>=◌ (value_walk last.value) (λ to context. walked_bounds context.tree head (statement_walk body.value.0) from to context)))
-        (for-sound head execution (statement_walk body.value.0) inside.controls (ap controls_of loop.1 ∙ loop.3)
-        (one-sound body.value (record { well = five.1; held = more_kinds.1; begin = more_there.1 }) own) of_text
+        (for-sound head execution (statement_walk body.value.0) inside.controls (inside-told world.tree block head.loop_number told loop)
+        (kind-told world.tree block head.loop_number told loop)
+        (one-inside body.value (record { well = five.1; held = more_kinds.1; begin = more_there.1 }) own) of_text
         (ordinal-entire world.tree (control ∷ controls_inside world.tree head.loop_number)
         (one-ordinal world.tree control (controls_inside world.tree head.loop_number) (control-ordinal world.tree block control one.0)
-        (inside-ordinal world.tree block head.loop_number inside.controls (controls-ordinal world.tree block body.value.0 five.1) loop)))
+        (inside-ordinal world.tree block head.loop_number told (controls-ordinal world.tree block body.value.0 five.1) loop)))
         (loop.0, loop.1, loop.2) (ordinal-sound first.value two.0 kinds.0 there.0) (control-tested control first.fits three.0 leads_there)
         (ordinal-sound last.value four.0 more_kinds.0 more_there.0) (control-tested control last.fits five.0 leads_there))
     layer-here (Case head arms) is text =
@@ -860,12 +880,12 @@ module _ (world : World) (block : ℕ) (own_block : Block)
         let own = text-with inside (λ roots. all_so (map (spares_in_record roots) list) && spares inner roots) (spares inner)
         (λ roots so. (and_parts (all_so (map (spares_in_record roots) list)) (spares inner roots) so).1) text in
         entered-among inside.controls head.number
-        (effect.◌>>=◌ (meaning.opened list env) (λ found. effect_of inner (around found))) (walk.with_walk head (statement_walk inner))
+        (effect.◌>>=◌ (meaning.opened list env) (λ found. effect_of inner (around visible found))) (walk.with_walk head (statement_walk inner))
         (among-after inside.controls world block visible (AreOpen world block visible (behind list records)) (meaning.opened list env)
-        (λ found. effect_of inner (around found)) (walk.all_of (map walk.record_walk list)) (statement_walk inner)
+        (λ found. effect_of inner (around visible found)) (walk.all_of (map walk.record_walk list)) (statement_walk inner)
         (opened-sound world block visible does laws calls list records places opened parts.0 kinds.0 (begins_in inner) there.1)
         (λ found are.
-        body.value.1 (behind list records) found are
+        body.value.1 visible (behind list records) found are
         (record { well = parts.1; held = kinds.1; begin = with-begun list (begins_in inner) records there.1 }) own))
 
   abbrev StmtLayer : Stmt-F Stmt → Type 0
@@ -874,7 +894,7 @@ module _ (world : World) (block : ℕ) (own_block : Block)
       (meaning.effect_step (map-Stmt Stmt Execution effect_of x)) (walk.statement_step (map-Stmt Stmt (Walking (Unit {0})) statement_walk x))
 
   statement-layer : (y : Stmt-F ProvedStmt) → StmtLayer (map-Stmt ProvedStmt Stmt (λ s. s.0) y)
-  statement-layer y records places opened = layer-here records places opened y
+  statement-layer y visible records places opened = layer-here visible records places opened y
 
   along-statement : {told other_told : Told} {inside other : Inside} {so also : Spares} {execution executed : Execution} {walking walked : Walking (Unit {0})}
       → told ≡ other_told → inside ≡ other → so ≡ also → execution ≡ executed → walking ≡ walked → SoundStatement other_told other also executed walked
@@ -907,6 +927,6 @@ module _ (world : World) (block : ℕ) (own_block : Block)
       (λ x y is. subst (λ (z : Stmt-F Stmt). StatementIsSound (roll-Stmt z)) is (rolled-stmt (map-Stmt ProvedStmt Stmt (λ s. s.0) y) (statement-layer y)))
 
   -- a statement that is well formed, whose operands are as they are taken, and in which accesses begin at records that are open
-  pub statement-sound : (s : Stmt) → well_stmt s ≡ true → is_held_stmt s ≡ true → begins_in s [] ≡ true → Text (inside_of s) (spares s)
-      → SoundAmong {A = Unit {0}} {B = Unit {0}} (inside_of s).controls world block visible Any_value (effect_of s (around [])) (statement_walk s)
-  statement-sound s well held begin text = each-statement s [] [] tt (record { well = well; held = held; begin = begin }) text
+  pub statement-sound : (visible : Environment) (s : Stmt) → well_stmt s ≡ true → is_held_stmt s ≡ true → begins_in s [] ≡ true → Text (inside_of s) (spares s)
+      → SoundAmong {A = Unit {0}} {B = Unit {0}} (inside_of s).controls world block visible Any_value (effect_of s (around visible [])) (statement_walk s)
+  statement-sound visible s well held begin text = each-statement s visible [] [] tt (record { well = well; held = held; begin = begin }) text

@@ -1,6 +1,7 @@
 -- The branches of a conditional statement and the loops are sound. A loop is a head, a round and a way out: what holds at
 -- its head holds there again whenever a round ends that another follows.
 use Rattle.std.proofs.Common.{arith, ◌≡◌, ◌∙◌, ◌&&◌, ap, sym, refl, subst, ℕ, zero, suc, Bool, true, false, cond, List, [], ◌∷◌, ◌++◌, Option, Some, None}
+use Rattle.std.proofs.Common.{◌+◌, filter, length}
 use Rattle.std.specs.Prelude.{◌≤◌}
 use Rattle.std.proofs.lemmas.List.Elements.{Contains-append_left, Contains-append_right}
 use Rattle.std.proofs.lemmas.List.Folds.{list_all-append}
@@ -31,7 +32,8 @@ use Rattle.checker_state.specs.State.{State}
 use Rattle.checker_state.specs.Joins.{joined_states}
 use Rattle.checker_state.proofs.Joined.{join-holds}
 use Rattle.checker_state.proofs.Refined.{conditions-tell}
-use Rattle.checker_loops.specs.Loops.{Round, claims_at, controls_inside, gives_claims, head_of, round_of, touched, with_own}
+use Rattle.checker_loops.specs.Growths.{depth_of}
+use Rattle.checker_loops.specs.Loops.{Round, claims_at, controls_inside, gives_claims, head_of, is_for_statement, round_of, touched, with_own}
 use Rattle.checker_state.specs.State.{table_of}
 use Rattle.checker_loops.proofs.Tabled.{are-rows}
 use Rattle.checker_loops.proofs.Touched.{all_control}
@@ -51,14 +53,15 @@ use Rattle.cert_checker.proofs.Written.{Foretold}
 
 -- ---- control variables
 
--- in each loop round a piece are for statements that these variables control
-abbrev pub AreControlled : List ℕ → Context → Type 0
-AreControlled controls context = (root : ℕ) → is_among root controls ≡ true → all_control root context.rounds ≡ true
+-- in each loop round a piece are for statements that these variables control, and as many turns are told of as for statements stand round it
+pub record AreControlled (controls : List ℕ) (env : Environment) (context : Context) : Type 0 where
+  pub control : (root : ℕ) → is_among root controls ≡ true → all_control root context.rounds ≡ true
+  pub deep : length env.turns ≡ depth_of context.rounds
 
 -- a piece is sound where such are the loops round it
 abbrev pub SoundAmong : {A B : Type 0} → List ℕ → World → ℕ → Environment → (B → A → Store → Type 0) → Action A → Walking B → Type 0
 SoundAmong controls world block env R action walking =
-    (context : Context) (state : State) (s : effect.State) → AreControlled controls context → (walking context state).broken ≡ []
+    (context : Context) (state : State) (s : effect.State) → AreControlled controls env context → (walking context state).broken ≡ []
     → IsPartOf world (walking context state) → Here world block env context state s
     → Good world (IsForetold world env R context (walking context state) s.store) s (action s)
 
@@ -182,7 +185,7 @@ chosen-good : (controls : List ℕ) (world : World) (block : ℕ) (env : Environ
     (known : Known) (b : Bool) (context : Context) (state : State) (t : effect.State)
     → SoundAmong {A = Unit {0}} {B = Unit {0}} controls world block env Any_value one_action consequence
     → SoundAmong {A = Unit {0}} {B = Unit {0}} controls world block env Any_value other_action alternative
-    → AreControlled controls context → (walk.branches world.tree condition consequence alternative known context state).broken ≡ []
+    → AreControlled controls env context → (walk.branches world.tree condition consequence alternative known context state).broken ≡ []
     → IsPartOf world (walk.branches world.tree condition consequence alternative known context state)
     → Here world block env context (where_so world.tree b condition known state) t
     → Good world (Foretold world env context (walk.branches world.tree condition consequence alternative known context state) t.store) t
@@ -276,7 +279,7 @@ EndsHold world env context again out start =
 
 abbrev pub SoundRound : {A : Type 0} → List ℕ → World → ℕ → Environment → Action (Option A) → Walking State → Type 0
 SoundRound {A} controls world block env round walking =
-    (context : Context) (state : State) (s : effect.State) → AreControlled controls context → (walking context state).broken ≡ []
+    (context : Context) (state : State) (s : effect.State) → AreControlled controls env context → (walking context state).broken ≡ []
     → IsPartOf world (walking context state) → Here world block env context state s
     → Good world (EndsHold world env context (walking context state).after (walking context state).value s.store {A = A}) s (round s)
 
@@ -306,12 +309,42 @@ at_head context number control = with_own control (round_of context.tree context
 abbrev pub inner : Context → ℕ → Context
 inner context number = record context { rounds = context.rounds ++ round_of context.tree context.pairs context.claims number ∷ [] }
 
--- so is the loop of which they are the control variables inside
-pub inner-controlled : (world : World) (context : Context) (number : ℕ) (controls : List ℕ) → context.tree ≡ world.tree
-    → controls_inside world.tree number ≡ controls → AreControlled controls context → AreControlled controls (inner context number)
-inner-controlled world context number controls tree_is inside held root among =
-    all-controls root context.rounds (round_of context.tree context.pairs context.claims number) (held root among)
-    (ap (λ (tree : Tree). is_among root (controls_inside tree number)) tree_is ∙ ap (is_among root) inside ∙ among)
+-- inside a loop one more for statement stands round a piece, if it is one
+abbrev pub more_deep : (is_for : Bool) → ℕ
+more_deep true = 1
+more_deep false = 0
+
+counted-deep : (one : Round) (left : List Round) (b : Bool) (n : ℕ) → n ≡ length (cond b (one ∷ left) left) → n ≡ more_deep b + length left
+counted-deep one left true n is = let own : n ≡ suc (length left) = is in omega (arith, own)
+counted-deep one left false n is = let own : n ≡ length left = is in omega (arith, own)
+
+first-deep : (one : Round) (rest : List Round) (is_for : Bool) → one.is_for ≡ is_for → depth_of (one ∷ rest) ≡ more_deep is_for + depth_of rest
+first-deep one rest is_for is =
+    let left = filter (λ (round : Round). round.is_for) rest in
+    counted-deep one left is_for (depth_of (one ∷ rest)) (ap (λ (b : Bool). length (cond b (one ∷ left) left)) is)
+
+inside-deep : (rounds : List Round) (one : Round) (is_for : Bool) → one.is_for ≡ is_for → depth_of (rounds ++ one ∷ []) ≡ depth_of rounds + more_deep is_for
+inside-deep [] one is_for is = let own = first-deep one [] is_for is in omega (arith, own)
+inside-deep (first ∷ rounds) one is_for is =
+    let own = first-deep first (rounds ++ one ∷ []) first.is_for refl in
+    let before = first-deep first rounds first.is_for refl in
+    let rest = inside-deep rounds one is_for is in
+    omega (arith, own, before, rest)
+
+-- so is the loop of which they are the control variables inside, where more turns are told of if it is a for statement
+pub inner-controlled : (world : World) (outer env : Environment) (context : Context) (number : ℕ) (controls : List ℕ) (is_for : Bool)
+    → context.tree ≡ world.tree → controls_inside world.tree number ≡ controls → is_for_statement world.tree number ≡ is_for
+    → length env.turns ≡ length outer.turns + more_deep is_for → AreControlled controls outer context → AreControlled controls env (inner context number)
+inner-controlled world outer env context number controls is_for tree_is inside kind more held =
+    let own = round_of context.tree context.pairs context.claims number in
+    let deeper = inside-deep context.rounds own is_for (ap (λ (tree : Tree). is_for_statement tree number) tree_is ∙ kind) in
+    let deep = held.deep in
+    record {
+      control = λ root among.
+          all-controls root context.rounds own (held.control root among)
+          (ap (λ (tree : Tree). is_among root (controls_inside tree number)) tree_is ∙ ap (is_among root) inside ∙ among);
+      deep = omega (arith, deeper, deep, more);
+    }
 
 abbrev pub with_head : Context → ℕ → Option ℕ → List Round
 with_head context number control = context.rounds ++ at_head context number control ∷ []
@@ -459,9 +492,10 @@ plain-ends world env context again out start (Some a) store (stood, kept) = (sto
 pub sound-loop : {A : Type 0} (controls : List ℕ) (world : World) → (block : ℕ) (env : Environment)
     (number : ℕ) (place : SourcePlace) (round : effect.Round A) (a : A)
     (walking : Walking State) → AreEntire (parts_in world) (variables_in world) (controls_inside world.tree number)
-    → StandsIn world block number → controls_inside world.tree number ≡ controls → ((b : A) → SoundRound controls world block env (round b) walking)
+    → StandsIn world block number → controls_inside world.tree number ≡ controls → is_for_statement world.tree number ≡ false
+    → ((b : A) → SoundRound controls world block env (round b) walking)
     → SoundAmong {A = Unit {0}} {B = Unit {0}} controls world block env Any_value (effect.looped round a) (walk.loop_walk number place None walking)
-sound-loop {A} controls world block env number place round a walking controls_are stands inside_are each context state s held unbroken part here =
+sound-loop {A} controls world block env number place round a walking controls_are stands inside_are kind each context state s held unbroken part here =
     let within = inner context number in
     let begun = loop_begun context number None state in
     let turn = walking within begun in
@@ -475,7 +509,7 @@ sound-loop {A} controls world block env number place round a walking controls_ar
     good-weaker world (EndsHold world env within turn.after turn.value t.store {A = A})
     (RoundEnds world env within within.rounds (λ b store. store) (λ b store. Unit {0}) turn.after turn.value t.store) t (round b t)
     (λ more u is told. plain-ends world env within turn.after turn.value t.store more u.store told.so)
-    (each b within begun t (inner-controlled world context number controls goes.tree_is inside_are held) unbroken part
+    (each b within begun t (inner-controlled world env env context number controls false goes.tree_is inside_are kind (omega arith) held) unbroken part
     (record {
       block_is = here.block_is;
       fine = fine;
@@ -508,7 +542,7 @@ turn-then world Q next t fine then =
 module _ (controls : List ℕ) (world : World) (block : ℕ) (env : Surroundings) (condition : Expr) (execution : meaning.Execution) (body : Walking (Unit {0}))
     (valued : Sound world block env.visible (IsHeld scalar.Ordinal) (value_of condition env) (value_walk condition))
     (one : SoundAmong {A = Unit {0}} {B = Unit {0}} controls world block env.visible Any_value (execution env) body) (context : Context)
-    (held : AreControlled controls context) (start : Store) (known : Known)
+    (held : AreControlled controls env.visible context) (start : Store) (known : Known)
     (tested : State) where
   abbrev visible : Environment
   visible = env.visible

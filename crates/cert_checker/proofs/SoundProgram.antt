@@ -113,7 +113,7 @@ module _ (tree : Tree) (certificate : Certificate) (unbroken : (program_walk tre
       ∙ none-entered tree certificate.sections.items known in
       let hold : AllHold tree entry visible [] = subst (λ (facts : List Fact). AllHold tree facts visible []) (sym none) (no-claims tree visible []) in
       let good = body-good tree certificate unbroken well laws known_pairs (calls_of tree (suc turns))
-      (sound-calls tree certificate unbroken well laws known_pairs (suc turns)) 0 block is visible (spared-calls tree well (suc turns))
+      (sound-calls tree certificate unbroken well laws known_pairs (suc turns)) 0 block is visible refl (spared-calls tree well (suc turns))
       (first_state input turns) (first-fine tree input turns) (program-proper tree world.pairs well block is)
       (program-start tree world.pairs well block is certificate.version entry hold) in
       record { errs = good.errs; new = good.new }

@@ -96,10 +96,10 @@ module _ (world : World) (block : ℕ) (env : Surroundings) (records : List Open
       store-sound n inside store leads =
           let own = passed-typed world origin selectors test (Number n) typed inside tt in
           sound-by_tree {A = Unit {0}} {B = Unit {0}} world block visible store Any_value (effect.store place (Number n))
-          (λ (tree : Tree). walk.assign_to (point_place tree one.point name) origin selectors (held reach) None range)
+          (λ (tree : Tree). walk.assign_to (point_place tree one.point name) origin selectors (held reach) None None range)
           (value-stored world block env records opened laws calls (point_place world.tree one.point name) origin selectors own.0 own.1 (Number n) own.2 seen
           (held reach) place range (is_in-limits one.range (Number n) inside) store
-          (reached-then world block env store store origin selectors reach place false (λ quiet. refl) leads) None tt)
+          (reached-then world block env store store origin selectors reach place false (λ quiet. refl) leads) None None tt tt)
 
       read-stored : (store : Store) → LeadsTo world block env origin selectors reach place store
           → SoundFrom {A = Unit {0}} {B = Unit {0}} world block visible store Any_value (from_place place) (read_value name one reach)

@@ -146,7 +146,8 @@ module _ (tree : Tree) (well : IsWellFormed tree) (block control : ℕ) (control
     keeps-executed =
         keeps-then at _ _ (keeps-received at tree well activation callee callee_is refl refl own)
         (λ _. keeps-then at _ _
-        (text-kept at calls (spared block control controls home visible alone-inside) (outline_of tree) number refl callee.body [] [] tt
+        (text-kept at calls (λ turns. spared block control controls home (record visible { turns = turns }) alone-inside) (outline_of tree) number refl
+        callee.body [] [] [] tt
         (well-body tree well number callee callee_is) (begun-body tree well number callee callee_is) (controls_but number 0 tree.blocks.items) others
         (well.unthreatened number callee callee_is))
         (λ _. keeps-result at callee.heading.result visible))

@@ -52,7 +52,7 @@ use Rattle.meaning.specs.declared.store.Value.{Value}
 use Rattle.meaning.specs.declared.store.Value.TheVariants.{Members, Number}
 use Rattle.meaning.specs.Integers.{truth}
 use Rattle.meaning.specs.Kinds.{LieOpen}
-use Rattle.meaning.specs.Counting.{has_values, value_behind}
+use Rattle.meaning.specs.Counting.{has_values, value_behind, values_before}
 use Rattle.meaning.specs.Store.{Place, part}
 use Rattle.meaning.specs.Effect.{Action, give, is_in, is_positive, number_of, require, row_text, text_of}
 use Rattle.meaning.specs.Effect as effect
@@ -64,7 +64,7 @@ use Rattle.checker_expressions.proofs.EffectsKept.{CanGive, IsOwn, Keeps, MayCha
 use Rattle.checker_expressions.proofs.EffectsKept.{keeps-asked, keeps-enter, keeps-fetch, keeps-fetch_all, keeps-give, keeps-line_ended, keeps-line_passed}
 use Rattle.checker_expressions.proofs.EffectsKept.{keeps-looped, keeps-operated, keeps-operated_both, keeps-read_as, keeps-require, keeps-stop, keeps-store}
 use Rattle.checker_expressions.proofs.EffectsKept.{keeps-store_all, keeps-then, keeps-turn, keeps-undefine, keeps-unless_outside, keeps-valued, keeps-when}
-use Rattle.checker_expressions.proofs.EffectsKept.{keeps-with_one, keeps-with_range, keeps-write}
+use Rattle.checker_expressions.proofs.EffectsKept.{keeps-turned, keeps-with_one, keeps-with_range, keeps-write, turned}
 use Rattle.checker_calls.proofs.Origins.{root_is}
 use Rattle.checker_expressions.proofs.Effects.{under-accessed}
 use Rattle.cert_checker.proofs.OpenedBehind.{all-opened, behind, one-opened, with-begun, with-parts}
@@ -463,56 +463,64 @@ module _ (at : Standing) (calls : Calls) (called : CallsKeep at calls) where
         let there = and_parts (read_begins one opened) (all_begin (map read_begins others) opened) begin in
         keeps-then at _ _ (read-kept one there.0 own.0) (λ _. reads-kept others there.1 own.1)
 
-  -- ---- statements
+-- ---- statements
 
-  -- one of two actions
-  keeps-chosen : (b : Bool) (one other : Action (Unit {0})) → Keeps at one → Keeps at other → Keeps at (if b then one else other)
-  keeps-chosen true one other first second = first
-  keeps-chosen false one other first second = second
+-- one of two actions
+keeps-chosen : (at : Standing) (b : Bool) (one other : Action (Unit {0})) → Keeps at one → Keeps at other → Keeps at (if b then one else other)
+keeps-chosen at true one other first second = first
+keeps-chosen at false one other first second = second
 
-  keeps-turn_if : (so : Bool) (body : Action (Unit {0})) → Keeps at body → Keeps at (meaning.turn_if so body)
-  keeps-turn_if false body kept = keeps-give at None
-  keeps-turn_if true body kept = keeps-then at _ _ (keeps-turn at) (λ _. keeps-then at _ _ kept (λ _. keeps-give at (Some tt)))
+keeps-turn_if : (at : Standing) (so : Bool) (body : Action (Unit {0})) → Keeps at body → Keeps at (meaning.turn_if so body)
+keeps-turn_if at false body kept = keeps-give at None
+keeps-turn_if at true body kept = keeps-then at _ _ (keeps-turn at) (λ _. keeps-then at _ _ kept (λ _. keeps-give at (Some tt)))
 
-  -- all but one variable more may be changed
-  others-but : (control : ℕ) (roots : List ℕ) → MayChangeOthers at roots → MayChangeOthers at (control ∷ roots)
-  others-but control roots others root so = others root (by (nat_eq control root) (list_any (λ one. nat_eq one root) roots) so)
-    where
-      by : (same own : Bool) → not (same || own) ≡ true → not own ≡ true
-      by true own is = absurd (cc)
-      by false own is = is
+-- all but one variable more may be changed
+others-but : (at : Standing) (control : ℕ) (roots : List ℕ) → MayChangeOthers at roots → MayChangeOthers at (control ∷ roots)
+others-but at control roots others root so = others root (by (nat_eq control root) (list_any (λ one. nat_eq one root) roots) so)
+  where
+    by : (same own : Bool) → not (same || own) ≡ true → not own ≡ true
+    by true own is = absurd (cc)
+    by false own is = is
 
-  module _ (outline : Outline) (block : ℕ) where
-    abbrev well_stmt : Stmt → Bool
-    well_stmt = is_well_formed_stmt outline block
+module _ (base : Standing) (calls : Calls) (called : (turns : List ℕ) → CallsKeep (turned base turns) calls) (outline : Outline) (block : ℕ) where
+  abbrev well_stmt : Stmt → Bool
+  well_stmt = is_well_formed_stmt outline block
 
-    -- wherever records are open
-    abbrev IsKeptStmt : Stmt → Type 0
-    IsKeptStmt s =
-        (opened : List OpenRecord) (places : List (Option Place)) → LieOpen at.visible opened places → well_stmt s ≡ true → begins_in s opened ≡ true
-        → (roots : List ℕ) → MayChangeOthers at roots → spares s roots ≡ true → Keeps at (effect_of s (around places))
+  -- wherever records are open, and whatever turns are finished
+  abbrev within : List ℕ → List (Option Place) → Surroundings
+  within turns places = record { visible = (turned base turns).visible; records = places; calls = calls }
 
-    abbrev KeptStmt : Type 0
-    KeptStmt = (s : Stmt) × IsKeptStmt s
+  abbrev IsKeptStmt : Stmt → Type 0
+  IsKeptStmt s =
+      (turns : List ℕ) (opened : List OpenRecord) (places : List (Option Place)) → LieOpen base.visible opened places → well_stmt s ≡ true
+      → begins_in s opened ≡ true → (roots : List ℕ) → MayChangeOthers base roots → spares s roots ≡ true
+      → Keeps (turned base turns) (effect_of s (within turns places))
 
-    abbrev bodies : List KeptStmt → List Stmt
-    bodies statements = map (λ s. s.0) statements
+  abbrev KeptStmt : Type 0
+  KeptStmt = (s : Stmt) × IsKeptStmt s
 
-    abbrev bare_stmt : Stmt-F KeptStmt → Stmt-F Stmt
-    bare_stmt = map-Stmt KeptStmt Stmt (λ s. s.0)
+  abbrev bodies : List KeptStmt → List Stmt
+  bodies statements = map (λ s. s.0) statements
+
+  abbrev bare_stmt : Stmt-F KeptStmt → Stmt-F Stmt
+  bare_stmt = map-Stmt KeptStmt Stmt (λ s. s.0)
+
+  module _ (turns : List ℕ) where
+    abbrev at : Standing
+    at = turned base turns
 
     -- the records of a with are accessed
     records-kept : (list : List WithRecord) (opened : List OpenRecord) (places : List (Option Place)) → LieOpen at.visible opened places
         → all_hold (map (is_well_formed_record outline block) list) ≡ true → (body : Begin) → with_begins list body opened ≡ true
         → (roots : List ℕ) → MayChangeOthers at roots → all_so (map (spares_in_record roots) list) ≡ true
-        → Keeps at (meaning.opened list (around places))
+        → Keeps at (meaning.opened list (within turns places))
     records-kept [] opened places lie well body begin roots others so = keeps-give at places
     records-kept (one ∷ rest) opened places lie well body begin roots others so =
         let access = one.access in
         let parts = and_parts (is_well_formed_record outline block one) (all_hold (map (is_well_formed_record outline block) rest)) well in
         let there = with-parts one rest body opened begin in
         let own = and_parts (spares_in_record roots one) (all_so (map (spares_in_record roots) rest)) so in
-        keeps-when at _ _ (access-kept opened places lie roots others access one.indexes.items there.indexes own.0)
+        keeps-when at _ _ (access-kept at calls (called turns) opened places lie roots others access one.indexes.items there.indexes own.0)
         (λ place given.
         records-kept rest (opened ++ opened_by access ∷ []) (places ++ place ∷ [])
         (one-opened at.visible calls outline block one opened places lie parts.0 there.there place given) parts.1 body there.later roots others own.1)
@@ -521,13 +529,22 @@ module _ (at : Standing) (calls : Calls) (called : CallsKeep at calls) where
       -- a statement here
       abbrev KeptHere : Bool → Begin → Spares → Execution → Type 0
       KeptHere well begin spared execution =
-          well ≡ true → begin opened ≡ true → (roots : List ℕ) → MayChangeOthers at roots → spared roots ≡ true → Keeps at (execution (around places))
+          well ≡ true → begin opened ≡ true → (roots : List ℕ) → MayChangeOthers at roots → spared roots ≡ true → Keeps at (execution (within turns places))
 
       one-kept : (statement : KeptStmt) → KeptHere (well_stmt statement.0) (begins_in statement.0) (spares statement.0) (effect_of statement.0)
-      one-kept statement = statement.1 opened places lie
+      one-kept statement = statement.1 turns opened places lie
 
       abbrev standing : Surroundings
-      standing = around places
+      standing = within turns places
+
+      -- in a turn of a for
+      one-turn : (statement : KeptStmt) (head : ForHead) (first n : ℤ) → well_stmt statement.0 ≡ true → begins_in statement.0 opened ≡ true
+          → (roots : List ℕ) → MayChangeOthers at roots → spares statement.0 roots ≡ true
+          → Keeps at (effect_of statement.0 (meaning.for_turn head first standing n))
+      one-turn statement head first n well begin roots others so =
+          let inner = turns ++ values_before head.direction first n ∷ [] in
+          keeps-turned base turns inner (effect_of statement.0 (within inner places))
+          (statement.1 inner opened places lie well begin roots others so)
 
       keeps-all : (statements : List KeptStmt)
           → KeptHere (all_hold (map well_stmt (bodies statements))) (all_begin (map begins_in (bodies statements)))
@@ -548,25 +565,26 @@ module _ (at : Standing) (calls : Calls) (called : CallsKeep at calls) where
           let parts = and_parts (spares arm.0 roots) (all_spare (map spares (bodies arms)) roots) so in
           let each = and_parts (well_stmt arm.0) (all_hold (map well_stmt (bodies arms))) well in
           let there = and_parts (begins_in arm.0 opened) (all_begin (map begins_in (bodies arms)) opened) begin in
-          keeps-chosen (meaning.is_among row.items n) (effect_of arm.0 standing) (meaning.arm_of site rows (map effect_of (bodies arms)) n standing)
+          keeps-chosen at (meaning.is_among row.items n) (effect_of arm.0 standing) (meaning.arm_of site rows (map effect_of (bodies arms)) n standing)
           (one-kept arm each.0 there.0 roots others parts.0) (keeps-arm site rows arms n each.1 there.1 roots others parts.1)
 
-      keeps-between : (head : ForHead) (execution : Execution) → MayWriteTo at (at.visible.variables head.control) → Keeps at (execution standing)
-          → (first last : ℤ) → Keeps at (meaning.for_between head execution standing first last)
+      keeps-between : (head : ForHead) (execution : Execution) → MayWriteTo at (at.visible.variables head.control)
+          → ((first n : ℤ) → Keeps at (execution (meaning.for_turn head first standing n))) → (first last : ℤ)
+          → Keeps at (meaning.for_between head execution standing first last)
       keeps-between head execution may kept first last =
           let found = at.visible.variables head.control in
           let first_fits = head.first.fits in
           let last_fits = head.last.fits in
           let behind = value_behind head.direction last in
           let round = λ (n : ℤ). keeps-then at (effect.store found (Number n))
-          (λ _. effect.◌>>=◌ effect.use_turn (λ _. effect.◌>>=◌ (execution standing) (λ _. give (behind n))))
+          (λ _. effect.◌>>=◌ effect.use_turn (λ _. effect.◌>>=◌ (execution (meaning.for_turn head first standing n)) (λ _. give (behind n))))
           (keeps-store at found (Number n) may)
-          (λ _. keeps-then at _ _ (keeps-turn at) (λ _. keeps-then at _ _ kept (λ _. keeps-give at (behind n)))) in
+          (λ _. keeps-then at _ _ (keeps-turn at) (λ _. keeps-then at _ _ (kept first n) (λ _. keeps-give at (behind n)))) in
           let rounds : Keeps at (meaning.for_rounds head execution standing first last) =
           keeps-then at _ _ (keeps-require at (is_in first_fits.range (Number first)) first_fits.site)
           (λ _. keeps-then at _ _ (keeps-require at (is_in last_fits.range (Number last)) last_fits.site)
-          (λ _. keeps-looped at (meaning.for_round head last execution standing) round first)) in
-          keeps-chosen (has_values head.direction first last) (meaning.for_rounds head execution standing first last) (give tt) rounds (keeps-give at tt)
+          (λ _. keeps-looped at (meaning.for_round head first last execution standing) round first)) in
+          keeps-chosen at (has_values head.direction first last) (meaning.for_rounds head execution standing first last) (give tt) rounds (keeps-give at tt)
 
       abbrev LayerHere : Stmt-F Stmt → Type 0
       LayerHere x =
@@ -585,10 +603,11 @@ module _ (at : Standing) (calls : Calls) (called : CallsKeep at calls) where
           let there = and_parts (accesses_begin assignment.target assignment.indexes.items opened) (begins assignment.value opened) begin in
           let own = and_parts (all_begin (map begins assignment.indexes.items) opened) (is_there opened (origin_of assignment.target)) there.0 in
           keeps-then at _ _ (keeps-enter at assignment.number at.visible)
-          (λ _. keeps-when at _ _ (access-kept opened places lie roots others assignment.target assignment.indexes.items own.0 one.0)
-          (λ place given. keeps-then at _ _ (keeps-value opened places lie roots others assignment.value there.1 two.1)
+          (λ _. keeps-when at _ _ (access-kept at calls (called turns) opened places lie roots others assignment.target assignment.indexes.items own.0 one.0)
+          (λ place given. keeps-then at _ _ (keeps-value at calls (called turns) opened places lie roots others assignment.value there.1 two.1)
           (λ v. keeps-then at _ _ (keeps-require at (is_in assignment.fits.range v) assignment.fits.site)
-          (λ _. keeps-store at place v (write-accessed opened places lie roots others assignment.target (values_of assignment.indexes.items) own.1 two.0 place
+          (λ _. keeps-store at place v (write-accessed at calls (called turns) opened places lie roots others assignment.target
+          (values_of assignment.indexes.items) own.1 two.0 place
           given)))))
       stmt-layer settled (Copy copying) well begin roots others so =
           let rest = spares_in_whole roots copying.value copying.value_indexes.items in
@@ -598,19 +617,22 @@ module _ (at : Standing) (calls : Calls) (called : CallsKeep at calls) where
           begin in
           let own = and_parts (all_begin (map begins copying.indexes.items) opened) (is_there opened (origin_of copying.target)) there.0 in
           keeps-then at _ _ (keeps-enter at copying.number at.visible)
-          (λ _. keeps-when at _ _ (access-kept opened places lie roots others copying.target copying.indexes.items own.0 one.0)
-          (λ place given. keeps-then at _ _ (whole-kept opened places lie roots others copying.value copying.value_indexes.items there.1 two.1)
+          (λ _. keeps-when at _ _ (access-kept at calls (called turns) opened places lie roots others copying.target copying.indexes.items own.0 one.0)
+          (λ place given. keeps-then at _ _
+          (whole-kept at calls (called turns) opened places lie roots others copying.value copying.value_indexes.items there.1 two.1)
           (λ values. keeps-store_all at place (components_of at.visible.types copying.type_id) values
-          (write-accessed opened places lie roots others copying.target (values_of copying.indexes.items) own.1 two.0 place given))))
+          (write-accessed at calls (called turns) opened places lie roots others copying.target (values_of copying.indexes.items) own.1 two.0 place given))))
       stmt-layer settled (Write writing) well begin roots others so =
           keeps-then at _ _ (keeps-enter at writing.number at.visible)
-          (λ _. keeps-then at _ _ (parameters-kept opened places lie roots others writing.parameters.items begin so)
+          (λ _. keeps-then at _ _ (parameters-kept at calls (called turns) opened places lie roots others writing.parameters.items begin so)
           (λ _. keeps-line_ended at writing.ends_line))
       stmt-layer settled (Read reading) well begin roots others so =
           keeps-then at _ _ (keeps-enter at reading.number at.visible)
-          (λ _. keeps-then at _ _ (reads-kept opened places lie roots others reading.variables.items begin so) (λ _. keeps-line_passed at reading.line))
+          (λ _. keeps-then at _ _ (reads-kept at calls (called turns) opened places lie roots others reading.variables.items begin so)
+          (λ _. keeps-line_passed at reading.line))
       stmt-layer settled (Calling calling) well begin roots others so =
-          keeps-then at _ _ (call-kept opened places lie roots others calling.call calling.actuals.items begin so) (λ _. keeps-give at tt)
+          keeps-then at _ _ (call-kept at calls (called turns) opened places lie roots others calling.call calling.actuals.items begin so)
+          (λ _. keeps-give at tt)
       stmt-layer settled (Compound number statements) well begin roots others so =
           keeps-then at _ _ (keeps-enter at number at.visible) (λ _. keeps-all statements.items well begin roots others so)
       stmt-layer settled (If number condition consequence None) well begin roots others so =
@@ -621,8 +643,8 @@ module _ (at : Standing) (calls : Calls) (called : CallsKeep at calls) where
           let there = and_parts (begins condition opened) (begins_in consequence.value.0 opened && true) begin in
           let each_there = and_parts (begins_in consequence.value.0 opened) true there.1 in
           keeps-then at _ _ (keeps-enter at number at.visible)
-          (λ _. keeps-then at _ _ (keeps-value opened places lie roots others condition there.0 one.0)
-          (λ v. keeps-chosen (meaning.is_so v) (effect_of consequence.value.0 standing) (give tt)
+          (λ _. keeps-then at _ _ (keeps-value at calls (called turns) opened places lie roots others condition there.0 one.0)
+          (λ v. keeps-chosen at (meaning.is_so v) (effect_of consequence.value.0 standing) (give tt)
           (one-kept consequence.value each.0 each_there.0 roots others two.0) (keeps-give at tt)))
       stmt-layer settled (If number condition consequence (Some alternative)) well begin roots others so =
           let one = and_parts (spares_in_expr roots condition) (spares consequence.value.0 roots && spares alternative.value.0 roots) so in
@@ -632,8 +654,8 @@ module _ (at : Standing) (calls : Calls) (called : CallsKeep at calls) where
           let there = and_parts (begins condition opened) (begins_in consequence.value.0 opened && begins_in alternative.value.0 opened) begin in
           let each_there = and_parts (begins_in consequence.value.0 opened) (begins_in alternative.value.0 opened) there.1 in
           keeps-then at _ _ (keeps-enter at number at.visible)
-          (λ _. keeps-then at _ _ (keeps-value opened places lie roots others condition there.0 one.0)
-          (λ v. keeps-chosen (meaning.is_so v) (effect_of consequence.value.0 standing) (effect_of alternative.value.0 standing)
+          (λ _. keeps-then at _ _ (keeps-value at calls (called turns) opened places lie roots others condition there.0 one.0)
+          (λ v. keeps-chosen at (meaning.is_so v) (effect_of consequence.value.0 standing) (effect_of alternative.value.0 standing)
           (one-kept consequence.value each.0 each_there.0 roots others two.0) (one-kept alternative.value each.1 each_there.1 roots others two.1)))
       stmt-layer settled (While head body) well begin roots others so =
           let one = and_parts (spares_in_expr roots head.condition) (spares body.value.0 roots) so in
@@ -641,8 +663,8 @@ module _ (at : Standing) (calls : Calls) (called : CallsKeep at calls) where
           let there = and_parts (begins head.condition opened) (begins_in body.value.0 opened) begin in
           keeps-then at _ _ (keeps-enter at head.number at.visible)
           (λ _. keeps-looped at (meaning.while_round (value_of head.condition) (effect_of body.value.0) standing)
-          (λ start. keeps-then at _ _ (keeps-value opened places lie roots others head.condition there.0 one.0)
-          (λ v. keeps-turn_if (meaning.is_so v) (effect_of body.value.0 standing) (one-kept body.value parts.1 there.1 roots others one.1))) tt)
+          (λ start. keeps-then at _ _ (keeps-value at calls (called turns) opened places lie roots others head.condition there.0 one.0)
+          (λ v. keeps-turn_if at (meaning.is_so v) (effect_of body.value.0 standing) (one-kept body.value parts.1 there.1 roots others one.1))) tt)
       stmt-layer settled (Repeat head statements) well begin roots others so =
           let one = and_parts (all_spare (map spares (bodies statements.items)) roots) (spares_in_expr roots head.condition) so in
           let parts = and_parts (all_hold (map well_stmt (bodies statements.items))) (well_expr head.condition) well in
@@ -651,7 +673,7 @@ module _ (at : Standing) (calls : Calls) (called : CallsKeep at calls) where
           (λ _. keeps-looped at (meaning.repeat_round (meaning.all_of (map effect_of (bodies statements.items))) (value_of head.condition) standing)
           (λ start. keeps-then at _ _ (keeps-turn at)
           (λ _. keeps-then at _ _ (keeps-all statements.items parts.0 there.0 roots others one.0)
-          (λ _. keeps-then at _ _ (keeps-value opened places lie roots others head.condition there.1 one.1)
+          (λ _. keeps-then at _ _ (keeps-value at calls (called turns) opened places lie roots others head.condition there.1 one.1)
           (λ v. keeps-give at (if meaning.is_so v then None else Some tt))))) tt)
       stmt-layer settled (For head body) well begin roots others so =
           let inner = spares body.value.0 (head.control ∷ roots) in
@@ -672,10 +694,11 @@ module _ (at : Standing) (calls : Calls) (called : CallsKeep at calls) where
           let found = at.visible.variables head.control in
           let own : IsOwn at found = λ place seen. (omega (arith, settled), others head.control one.0 place seen) in
           keeps-then at _ _ (keeps-enter at head.number at.visible)
-          (λ _. keeps-then at _ _ (keeps-value opened places lie roots others head.first.value there.0 two.0)
-          (λ a. keeps-then at _ _ (keeps-value opened places lie roots others head.last.value more_there.0 three.0)
+          (λ _. keeps-then at _ _ (keeps-value at calls (called turns) opened places lie roots others head.first.value there.0 two.0)
+          (λ a. keeps-then at _ _ (keeps-value at calls (called turns) opened places lie roots others head.last.value more_there.0 three.0)
           (λ b. keeps-then at _ _ (keeps-between head (effect_of body.value.0) (own-write at found own)
-          (one-kept body.value each.1 more_there.1 (head.control ∷ roots) (others-but head.control roots others) three.1) (number_of a) (number_of b))
+          (λ from n. one-turn body.value head from n each.1 more_there.1 (head.control ∷ roots) (others-but at head.control roots others) three.1) (number_of a)
+          (number_of b))
           (λ _. keeps-undefine at found own))))
       stmt-layer settled (Case head arms) well begin roots others so =
           let one = and_parts (spares_in_expr roots head.index) (all_spare (map spares (bodies arms.items)) roots) so in
@@ -686,7 +709,7 @@ module _ (at : Standing) (calls : Calls) (called : CallsKeep at calls) where
           let each = and_parts constants (all_hold (map well_stmt inner)) more.1 in
           let there = and_parts (begins head.index opened) (all_begin (map begins_in inner) opened) begin in
           keeps-then at _ _ (keeps-enter at head.number at.visible)
-          (λ _. keeps-then at _ _ (keeps-value opened places lie roots others head.index there.0 one.0)
+          (λ _. keeps-then at _ _ (keeps-value at calls (called turns) opened places lie roots others head.index there.0 one.0)
           (λ v. keeps-arm head.site head.constants.items arms.items (number_of v) each.1 there.1 roots others one.1))
       stmt-layer settled (With head body) well begin roots others so =
           let list = head.records.items in
@@ -697,21 +720,23 @@ module _ (at : Standing) (calls : Calls) (called : CallsKeep at calls) where
           keeps-then at _ _ (keeps-enter at head.number at.visible)
           (λ _. keeps-when at _ _ (records-kept list opened places lie parts.0 (begins_in inner) there.1 roots others one.0)
           (λ found given.
-          body.value.1 (behind list opened) found
+          body.value.1 turns (behind list opened) found
           (all-opened at.visible calls outline block list opened places lie parts.0 (begins_in inner) there.1 found given) parts.1
           (with-begun list (begins_in inner) opened there.1) roots others one.1))
 
-    abbrev IsKeptStmtLayer : Stmt-F Stmt → Type 0
-    IsKeptStmtLayer x = (opened : List OpenRecord) (places : List (Option Place)) (lie : LieOpen at.visible opened places) → LayerHere opened places lie x
+  abbrev IsKeptStmtLayer : Stmt-F Stmt → Type 0
+  IsKeptStmtLayer x =
+      (turns : List ℕ) (opened : List OpenRecord) (places : List (Option Place)) (lie : LieOpen base.visible opened places)
+      → LayerHere turns opened places lie x
 
-    rolled-stmt : at.settled ≡ 0 → (x : Stmt-F Stmt) (y : Stmt-F KeptStmt) → bare_stmt y ≡ x → IsKeptStmt (roll-Stmt x)
-    rolled-stmt settled x y is opened places lie well begin roots others so =
-        subst (λ (execution : Execution). Keeps at (execution (around places))) (sym (fold-roll-Stmt Execution effect_step x))
-        (subst IsKeptStmtLayer is (λ opened places lie. stmt-layer opened places lie settled y) opened places lie
-        (subst (λ (b : Bool). b ≡ true) (fold-roll-Stmt Bool (stmt_is_well_formed outline block) x) well)
-        (subst (λ (own : Begin). own opened ≡ true) (fold-roll-Stmt Begin statement_begins x) begin) roots others
-        (subst (λ (spared : Spares). spared roots ≡ true) (fold-roll-Stmt Spares statement_spares x) so))
+  rolled-stmt : base.settled ≡ 0 → (x : Stmt-F Stmt) (y : Stmt-F KeptStmt) → bare_stmt y ≡ x → IsKeptStmt (roll-Stmt x)
+  rolled-stmt settled x y is turns opened places lie well begin roots others so =
+      subst (λ (execution : Execution). Keeps (turned base turns) (execution (within turns places))) (sym (fold-roll-Stmt Execution effect_step x))
+      (subst IsKeptStmtLayer is (λ turns opened places lie. stmt-layer turns opened places lie settled y) turns opened places lie
+      (subst (λ (b : Bool). b ≡ true) (fold-roll-Stmt Bool (stmt_is_well_formed outline block) x) well)
+      (subst (λ (own : Begin). own opened ≡ true) (fold-roll-Stmt Begin statement_begins x) begin) roots others
+      (subst (λ (spared : Spares). spared roots ≡ true) (fold-roll-Stmt Spares statement_spares x) so))
 
-    -- a statement leaves what it spares, where variables need not stay defined
-    pub text-kept : at.settled ≡ 0 → (s : Stmt) → IsKeptStmt s
-    text-kept settled = ind-Stmt IsKeptStmt (rolled-stmt settled)
+  -- a statement leaves what it spares, where variables need not stay defined
+  pub text-kept : base.settled ≡ 0 → (s : Stmt) → IsKeptStmt s
+  text-kept settled = ind-Stmt IsKeptStmt (rolled-stmt settled)

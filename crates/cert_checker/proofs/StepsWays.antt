@@ -14,14 +14,15 @@ use Rattle.checker_known.specs.Known.{Core, core}
 use Rattle.checker_trail.specs.Trail.{EndsAt, Leaves, Left, seen}
 use Rattle.checker_trail.proofs.Ways as ways
 use Rattle.domain.specs.Facts.{Fact}
-use Rattle.checker_loops.specs.Loops.{Round, claims_at, gives_claims, head_of, round_of, with_own}
+use Rattle.checker_loops.specs.Growths.{Turns}
+use Rattle.checker_loops.specs.Loops.{Claims, Round, claims_at, gives_claims, head_of, round_of, with_own}
 use Rattle.checker_loops.specs.Ways.{Way}
 use Rattle.checker_expressions.specs.declared.fault.Breach.{Breach}
 use Rattle.checker_expressions.specs.declared.fault.Rule.TheVariants.{LoopEntry, LoopTurn}
 use Rattle.checker_expressions.specs.View.{first_of, state_of}
 use Rattle.checker_expressions.specs.Walk.{Context, Walked, Walking, ◌>>=◌, breach_unless, changed_by, first_breach, followed, give, with_state}
 use Rattle.cert_checker.specs.declared.walk.Walk.{Walk}
-use Rattle.cert_checker.specs.Walk.{either_of, facts_given, for_round, here, loop_walk, parted, rounds_of, steady_in}
+use Rattle.cert_checker.specs.Walk.{either_of, facts_given, here, loop_walk, parted, rounds_by, rounds_of, steady_in, turns_in}
 use Rattle.cert_checker.specs.View.{AreLoops, AtHead, Came, EntersLoop, Goes, IsOutside, LeavesLoop, Noted, at_state, claims_in, context_of}
 use Rattle.cert_checker.specs.View.{loop_in}
 use Rattle.cert_checker.proofs.Steps.{came-give, came-then, first-both, goes-here, goes-then, loops-noted, loops-same, noted-as}
@@ -283,19 +284,25 @@ loop-alike number place control one other context alike state =
     (followed w (followed (facts_given LoopTurn place facts context w.after) (with_state w.value context w.after)))))
     (alike (context.rounds ++ loop ∷ []) head)
 
--- the rounds of a for are its loop
-pub rounds-go : (head : ForHead) (body : Walking (Unit {0})) (way steady : Way) {old new : Walk}
+-- the rounds of a for, by what its turns go by
+pub rounds-go : (head : ForHead) (body : Walking (Unit {0})) (way steady : Way) (turns : Turns) (claims : Claims) {old new : Walk}
     → (AreLoops (context_of old) old.aliases.now → steady ≡ steady_in (context_of old) head.loop_number way)
-    → Goes (loop_walk head.loop_number head.place (Some way.control) (for_round steady body)) old new tt
+    → (AreLoops (context_of old) old.aliases.now → turns ≡ turns_in (context_of old) head.loop_number way)
+    → (AreLoops (context_of old) old.aliases.now → claims ≡ claims_in head.loop_number old) → Goes (rounds_by head turns claims.facts steady body) old new tt
     → Goes (rounds_of head body way) old new tt
-rounds-go head body way steady {old = old} {new = new} is goes = record {
+rounds-go head body way steady turns claims {old = old} {new = new} is turns_are claims_are goes = record {
   unless_short = λ long.
       let one = goes.unless_short long in
       record {
         was_long = one.was_long;
         has_done = λ ready.
+            let context = context_of old in
             subst (λ (s : Way).
-            Came (loop_walk head.loop_number head.place (Some way.control) (for_round s body) (context_of old) (state_of old.flow)) old new tt)
-            (is ready) (one.has_done ready);
+            Came (rounds_by head (turns_in context head.loop_number way) (claims_in head.loop_number old).facts s body context (state_of old.flow)) old new tt)
+            (is ready)
+            (subst (λ (t : Turns). Came (rounds_by head t (claims_in head.loop_number old).facts steady body context (state_of old.flow)) old new tt)
+            (turns_are ready)
+            (subst (λ (c : Claims). Came (rounds_by head turns c.facts steady body context (state_of old.flow)) old new tt) (claims_are ready)
+            (one.has_done ready)));
       };
 }

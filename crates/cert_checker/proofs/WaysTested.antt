@@ -1,5 +1,5 @@
 -- What the checker did over the bounds of a for statement, from what it did over each of them.
-use Rattle.std.proofs.Common.{◌≡◌, refl, ap₂}
+use Rattle.std.proofs.Common.{◌≡◌, refl, ap₂, None}
 use Rattle.domain.specs.Interval.{Interval}
 use Rattle.checker_rows.specs.Limits.{limits_of}
 use Rattle.checker_trail.specs.Trail.{seen}
@@ -29,7 +29,7 @@ way-tested way told first_range last_range first last {old = old} {new = new} fi
 
 -- the control variable is the first bound, where a first turn may begin
 pub way-begun : (way : Way) {old mid new : Walk} → Goes (changed_by (entered way)) old mid tt
-    → Goes (assign way.control way.first.form way.first.values) mid new tt → Goes (begin_way way) old new tt
+    → Goes (assign way.control way.first.form None way.first.values) mid new tt → Goes (begin_way way) old new tt
 way-begun way one two =
-    goes-here (changed_by (entered way) >>= λ _. assign way.control way.first.form way.first.values) (begin_way way) refl
-    (goes-then (changed_by (entered way)) (λ _. assign way.control way.first.form way.first.values) one two)
+    goes-here (changed_by (entered way) >>= λ _. assign way.control way.first.form None way.first.values) (begin_way way) refl
+    (goes-then (changed_by (entered way)) (λ _. assign way.control way.first.form None way.first.values) one two)

@@ -18,7 +18,7 @@ use Rattle.meaning.specs.declared.store.Value.{Value}
 use Rattle.meaning.specs.Store.{Environment, Place as StorePlace, Store, part, written}
 use Rattle.meaning.specs.Effect as effect
 use Rattle.checker_state.specs.Holds.{IsIn, moment}
-use Rattle.checker_state.specs.Knows.{IsKept, IsOfForm, Knows}
+use Rattle.checker_state.specs.Knows.{IsKept, IsOfForm, IsStep, Knows}
 use Rattle.checker_state.proofs.Apart.{part as part_at}
 use Rattle.checker_rows.specs.Rows.{is_structured_variable, rows_accessed, rows_of, type_at}
 use Rattle.checker_state.specs.Changes.{assigned}
@@ -69,34 +69,35 @@ module _ (world : World) (block : ℕ) (env : Environment) where
   -- ---- the store of a value
 
   module _ (root : ℕ) (home : StorePlace) (at : env.variables root ≡ Some home) where
-    assign-known : (v : Value) (range : Interval) (form : Option Bound) (context : Context) (state : State) (s : effect.State) (after : Store)
+    assign-known : (v : Value) (range : Interval) (form : Option Bound) (step : Option Interval) (context : Context) (state : State) (s : effect.State)
+        (after : Store)
         → Here world block env context state s → AreWritten env (aliases root) root (whole v) s.store after
-        → AreTyped world.tree env root (whole v) → IsIn range v → IsOfForm (moment env s.store) form v
-        → Knows (parts_in world) (variables_in world) env (walk.assign root form range context state).after after
-    assign-known v range form context state s after here are typed inside of_form =
+        → AreTyped world.tree env root (whole v) → IsIn range v → IsOfForm (moment env s.store) form v → IsStep (moment env s.store) root step v
+        → Knows (parts_in world) (variables_in world) env (walk.assign root form step range context state).after after
+    assign-known v range form step context state s after here are typed inside of_form is_step =
         let goes = here.stands.goes in
         let behind = λ (tree : Tree) (listed : Listed) (b : ℕ).
-        assigned root range (unless_alias (aliases_in listed b root) form)
+        assigned root range (unless_alias (aliases_in listed b root) form) step
         (with_aliases_stored tree (aliases_in listed b root) (record { type_id = type_at (rows_of tree) root; range = range } ∷ []) state) in
         let K = λ (after_state : State). Knows (parts_in world) (variables_in world) env after_state after in
         subst (λ (tree : Tree). K (behind tree context.pairs context.block)) (sym goes.tree_is)
         (subst (λ (listed : Listed). K (behind world.tree listed context.block)) (sym goes.pairs_are)
         (subst (λ (b : ℕ). K (behind world.tree (listed_in world) b)) (sym here.block_is)
-        (assigned-knows world.tree world.pairs block s.activations env here.proper root home at v s.store after are typed range form state inside of_form
-        here.stands.known)))
+        (assigned-knows world.tree world.pairs block s.activations env here.proper root home at v s.store after are typed range form step state inside of_form
+        is_step here.stands.known)))
 
     -- a value is assigned to a variable that each loop round it lists
-    pub listed-good : (v : Value) (range : Interval) (form : Option Bound) (context : Context) (state : State) (s : effect.State)
+    pub listed-good : (v : Value) (range : Interval) (form : Option Bound) (step : Option Interval) (context : Context) (state : State) (s : effect.State)
         → Here world block env context state s → LiesInVariable world.tree root v → IsIn range v → IsOfForm (moment env s.store) form v
-        → all_list root context.rounds ≡ true
-        → Good world (Foretold world env context (walk.assign root form range context state) s.store) s (effect.store (env.variables root) v s)
-    listed-good v range form context state s here lies inside of_form listed =
+        → IsStep (moment env s.store) root step v → all_list root context.rounds ≡ true
+        → Good world (Foretold world env context (walk.assign root form step range context state) s.store) s (effect.store (env.variables root) v s)
+    listed-good v range form step context state s here lies inside of_form is_step listed =
         let before = s.store in
         let after = written before home v in
         let apart = apart-seen world.tree world.pairs block s.activations env here.proper root home at in
         let are = whole-written env (aliases root) root home at apart before v in
         let typed = whole-typed world.tree world.pairs block s.activations env here.proper root home at v lies in
-        let P = Foretold world env context (walk.assign root form range context state) before in
+        let P = Foretold world env context (walk.assign root form step range context state) before in
         subst (λ (place : Option StorePlace). Good world P s (effect.store place v s)) (sym at)
         (record {
           errs = tt;
@@ -104,7 +105,7 @@ module _ (world : World) (block : ℕ) (env : Environment) where
           gives = record {
             so = record {
               tie = tt;
-              stands = record { goes = here.stands.goes; known = assign-known v range form context state s after here are typed inside of_form };
+              stands = record { goes = here.stands.goes; known = assign-known v range form step context state s after here are typed inside of_form is_step };
               kept =
                   listed-keeps world.tree world.pairs block s.activations env here.proper root home at context.rounds (closed-here context state s here)
                   before after (wider root before after (one-kept env (aliases root) root (whole v) before after are)) listed;

@@ -1,3 +1,4 @@
+pub mod Steps
 pub mod Walk
 pub mod NamesView
 pub mod Promise
@@ -5,4 +6,5 @@ pub mod Laws
 pub mod Plain
 pub mod View
 pub mod StoresView
+pub mod StepsView
 pub mod Visits

@@ -41,12 +41,13 @@ use Rattle.checker_state.specs.State.{Dead, State, has_number, range_of, unless_
 use Rattle.checker_state.specs.Joins.{joined_states}
 use Rattle.checker_state.specs.Stores.{Index, Reach, all_stored}
 use Rattle.checker_state.specs.Changes.{assigned}
-use Rattle.checker_state.specs.Conditions.{bound_form, branched, condition_of}
-use Rattle.checker_state.specs.Forms.{root_of as entire_root}
+use Rattle.checker_state.specs.Conditions.{bound_form, branched}
+use Rattle.checker_state.specs.Growths.{without_turns}
 use Rattle.checker_state.specs.Loops.{with_undefined}
 use Rattle.checker_state.specs.Values.{known_range}
 use Rattle.checker_rows.specs.Rows.{is_ordinal_variable, rows_accessed, rows_of, type_at}
 use Rattle.checker_loops.specs.Cases.{arm_start, constants_before}
+use Rattle.checker_loops.specs.Growths.{Turns, all_can_begin, all_have_turned, growths_begun, turns_of}
 use Rattle.checker_loops.specs.Loops.{Round, all_claims, claims_at, gives_claims}
 use Rattle.checker_loops.specs.Loops.{head_of, round_of, touched, with_own}
 use Rattle.checker_state.specs.State.{table_of}
@@ -58,12 +59,14 @@ use Rattle.checker_loops.specs.Starts.{block_start}
 use Rattle.checker_loops.specs.Aliases.{Stored, reach_unless_alias, unless_alias, with_aliases_stored}
 use Rattle.checker_calls.specs.Actuals.{unknown_reach}
 use Rattle.checker_expressions.specs.declared.fault.Rule.{Rule}
+use Rattle.checker_expressions.specs.declared.noting.Noted.{Noted}
 use Rattle.checker_expressions.specs.declared.fault.Rule.TheVariants.{LoopEntry, LoopTurn, Exit, Changes}
 use Rattle.checker_expressions.specs.Walk.{Context, Walked, Walking, ◌>>=◌, access_walk, asked, call_walk}
 use Rattle.checker_expressions.specs.Walk.{changed_by, enter, fitting, followed, give, index_pieces}
 use Rattle.checker_expressions.specs.Walk.{left_open}
 use Rattle.checker_expressions.specs.Walk.{may_change, parameter_walk, passed_piece_of, tested, value_walk, whole_walk}
 use Rattle.checker_expressions.specs.Walk.{with_state, within}
+use Rattle.cert_checker.specs.Steps.{assigned_walk, entire_variable, value_step}
 
 -- a variable is changed at a place: each loop round the place lists it, and so does the block, if need be
 abbrev pub change : Place → ℕ → Walking (Unit {0})
@@ -82,11 +85,12 @@ with_aliases context root stored state =
 abbrev pub stored_in : Context → ℕ → Interval → Stored
 stored_in context root range = record { type_id = type_at (rows_of context.tree) root; range = range }
 
--- the assignment of a value to a variable, perhaps of a bound form: its number lies in a range, or its members do
-abbrev pub assign : ℕ → Option Bound → Interval → Walking (Unit {0})
-assign root form range context =
+-- the assignment of a value to a variable, perhaps of a bound form, and perhaps a step: its number lies in a range, or
+-- its members do
+abbrev pub assign : ℕ → Option Bound → (step : Option Interval) → Interval → Walking (Unit {0})
+assign root form step range context =
     changed_by
-    (λ state. assigned root range (unless_alias (aliases_here context root) form)
+    (λ state. assigned root range (unless_alias (aliases_here context root) form) step
     (with_aliases context root (stored_in context root range ∷ []) state)) context
 
 -- the rows of a variable that get values, each with their range
@@ -125,19 +129,21 @@ assign_component place origin selectors reach range context =
     store_to place (root_of origin) reach (alike range (target_rows context origin selectors)) context
 
 -- the assignment of a value to a variable as a whole
-abbrev pub assign_entire : Place → ℕ → Option Bound → Interval → Walking (Unit {0})
-assign_entire place root form range = do
+abbrev pub assign_entire : Place → ℕ → Option Bound → (step : Option Interval) → Interval → Walking (Unit {0})
+assign_entire place root form step range = do
   _ ← change place root
-  assign root form range
+  assign root form step range
 
 -- a variable is accessed as a whole: no step leads on from it
 abbrev pub is_whole_variable : Origin → List Selector → Bool
 is_whole_variable origin selectors = is_empty (steps_of origin) && is_empty selectors
 
--- the assignment of a value to what is accessed
-abbrev pub assign_to : Place → Origin → List Selector → Reach → Option Bound → Interval → Walking (Unit {0})
-assign_to place origin selectors reach form range = if is_whole_variable origin selectors
-    then assign_entire place (root_of origin) form range else assign_component place origin selectors reach range
+-- the assignment of a value to what is accessed: only of a variable as a whole it may be a step
+abbrev pub assign_to : Place → Origin → List Selector → Reach → Option Bound → (step : Option Interval) → Interval
+    → Walking (Unit {0})
+assign_to place origin selectors reach form step range = if is_whole_variable origin selectors
+    then assign_entire place (root_of origin) form step range
+    else assign_component place origin selectors reach range
 
 -- rows with their ranges
 abbrev pub paired : List ℕ → List Interval → Stores
@@ -193,20 +199,22 @@ from_entry number walking = do
   _ ← enter number
   walking
 
--- what is accessed gets the value of an expression, of which this is known
-abbrev pub assign_value : Assignment → Reach → Known → Walking (Unit {0})
-assign_value assignment reach known context =
+-- what is accessed gets the value of an expression, of which this was noted and is known
+abbrev pub assign_value : Assignment → Reach → List Noted → Known → Walking (Unit {0})
+assign_value assignment reach notes known context =
     assign_to assignment.becomes (origin_of assignment.target) assignment.target.selectors.items reach
-    (bound_form (is_ordinal_variable context.tree) assignment.value) (known_range known) context
+    (bound_form (is_ordinal_variable context.tree) assignment.value)
+    (value_step context.tree (root_of (origin_of assignment.target)) assignment.value notes) (known_range known) context
 
 -- an assignment: the target is accessed, and then comes the value
 abbrev pub assignment_walk : Assignment → Walking (Unit {0})
 assignment_walk assignment =
     let target = assignment.target in do
       reach ← access_walk target (index_pieces assignment.indexes.items)
-      known ← value_walk assignment.value
-      passed ← fitting assignment.fits known
-      assign_value assignment (reach_stored target.selectors.items (holds_call assignment.value) reach) passed
+      valued ← assigned_walk assignment.value
+      passed ← fitting assignment.fits valued.known
+      assign_value assignment (reach_stored target.selectors.items (holds_call assignment.value) reach) valued.noted
+          passed
 
 -- an assignment of a whole value: the target is accessed, and then come the components, one after another
 abbrev pub copying_walk : Copying → Walking (Unit {0})
@@ -230,7 +238,7 @@ point_place tree number other = place_or other (slice_get tree.points.items numb
 abbrev pub read_value : Place → ReadVariable → Reach → Walking (Unit {0})
 read_value name one reach context =
     assign_to (point_place context.tree one.point name) (origin_of one.access) one.access.selectors.items
-    (reach_stored one.access.selectors.items false reach) None (limits_of one.range) context
+    (reach_stored one.access.selectors.items false reach) None None (limits_of one.range) context
 
 -- a variable that is read by a procedure whose name stands at a place: it is accessed, and then it gets its value
 abbrev pub read_walk : Place → ReadVariable → Walking (Unit {0})
@@ -345,30 +353,59 @@ tested_way way = do
   last ← tested_end start way.last
   give (with_values first last way)
 
--- a round of a for: a turn, and then the control variable is the last bound, or has its next value
-abbrev pub for_round : Way → Walking (Unit {0}) → Walking State
-for_round way body = do
-  _ ← changed_by (turn_begun way)
-  _ ← body
-  ended ← here
-  _ ← with_state (turn_ended way ended)
-  give (way_out way ended)
-
 -- the way through the loop of a number, whose turns leave the forms of untouched bounds as they are
 abbrev pub steady_in : Context → ℕ → Way → Way
 steady_in context number way =
     steady (touched (with_own (Some way.control) (round_of context.tree context.pairs context.claims number))) way
 
+-- what its turns go by
+abbrev pub turns_in : Context → ℕ → Way → Turns
+turns_in context number way =
+    turns_of context.rounds
+    (with_own (Some way.control) (round_of context.tree context.pairs context.claims number)) way
+
+-- growths that are claimed are given before the first turn
+abbrev pub growths_entered : Place → List Fact → Walking (Unit {0})
+growths_entered place facts context state = asked (all_can_begin state facts) LoopEntry place context state
+
+-- where a turn begins variables grow
+abbrev pub turn_from : Turns → List Fact → Way → Walking (Unit {0})
+turn_from turns facts way context =
+    changed_by (λ state. growths_begun context.tree turns facts (turn_begun way state)) context
+
+-- growths are given where a turn ends and another follows; then nothing is known of them
+abbrev pub turn_to : Turns → Place → List Fact → Way → Walking (Unit {0})
+turn_to turns place facts way = do
+  _ ← changed_by (turn_ended way)
+  _ ← λ context state. asked (all_have_turned turns state facts) LoopTurn place context state
+  changed_by (without_turns turns.depth)
+
+-- a round of a for: a turn, and then the control variable is the last bound, or has its next value; behind it nothing
+-- is known to grow with these turns
+abbrev pub for_round : Turns → Place → List Fact → Way → Walking (Unit {0}) → Walking State
+for_round turns place facts way body = do
+  _ ← turn_from turns facts way
+  _ ← body
+  ended ← here
+  _ ← turn_to turns place facts way
+  give (way_out way (without_turns turns.depth ended))
+
+-- the rounds of a for on a way: growths are given before the first
+abbrev pub rounds_by : ForHead → Turns → List Fact → Way → Walking (Unit {0}) → Walking (Unit {0})
+rounds_by head turns facts way body = do
+  _ ← growths_entered head.place facts
+  loop_walk head.loop_number head.place (Some way.control) (for_round turns head.place facts way body)
+
 -- the rounds of a for, from its control variable's first value
 abbrev pub rounds_of : ForHead → Walking (Unit {0}) → Way → Walking (Unit {0})
 rounds_of head body way context =
-    loop_walk head.loop_number head.place (Some way.control) (for_round (steady_in context head.loop_number way) body)
-    context
+    rounds_by head (turns_in context head.loop_number way) (claims_at context.claims head.loop_number).facts
+    (steady_in context head.loop_number way) body context
 
 -- the control variable is the first bound, where a first turn may begin
 abbrev pub begin_way : Way → Walking (Unit {0})
 begin_way way context state =
-    assign way.control way.first.form way.first.values context (entered way state)
+    assign way.control way.first.form None way.first.values context (entered way state)
 
 -- a for where there are values: the bounds are tested, and the control variable is the first
 abbrev pub for_turns : ForHead → Walking (Unit {0}) → Way → Walking (Unit {0})
@@ -420,7 +457,7 @@ arms_walk base index rows (arm ∷ arms) = do
 
 -- the variable of a program that an index is, if it is an ordinal one
 abbrev pub index_root : Tree → CaseHead → Option ℕ
-index_root tree head = entire_root (condition_of (is_ordinal_variable tree) head.index).form
+index_root tree head = entire_variable tree head.index
 
 -- a case, from the value of its index
 abbrev pub case_walk : Tree → CaseHead → List (Walking (Unit {0})) → Known → Walking (Unit {0})

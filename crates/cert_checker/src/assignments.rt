@@ -3,6 +3,8 @@ ghost use Rattle.typed_tree.specs.Accesses.{origin_of};
 ghost use Rattle.typed_tree.specs.Entries.{access_entries, entries_of_expression, index_entries, whole_entries};
 ghost use Rattle.checker_state.specs.View.{said_form, said_reach};
 ghost use Rattle.checker_expressions.specs.Visits.{all_counted};
+ghost use Rattle.cert_checker.specs.Steps.{assigned_walk};
+ghost use Rattle.cert_checker.specs.StepsView.{said_valued};
 ghost use Rattle.cert_checker.specs.StoresView.{said_stores};
 ghost use Rattle.cert_checker.specs.View.{Goes, context_of};
 ghost use Rattle.cert_checker.specs.Walk.{aliases_here, assign, assign_component, assign_to, assign_value};
@@ -10,17 +12,20 @@ ghost use Rattle.cert_checker.specs.Walk.{assignment_walk};
 ghost use Rattle.cert_checker.specs.Walk.{change, copy_to, copying_walk, from_entry, is_whole_variable, store_to};
 ghost use Rattle.cert_checker.specs.Walk.{stores_made};
 
+use crate::increments::{Valued, value_step};
 use crate::reached::reach_stored;
 use crate::stores::{Stores, assign};
 use crate::walk::Walk;
 use checker_expressions::count::Count;
 use checker_expressions::fault::Rule;
+use checker_expressions::noting::Noted;
 use checker_state::{Bound, Known, Reach, bound_form};
 use domain::interval::Interval;
+use domain::versions::Extension;
 use place::Place;
 use std::alloc::AllocError;
 use typed_tree::calls::{holds_call, whole_holds_call};
-use typed_tree::tree::{Access, Assignment, Base, Copying};
+use typed_tree::tree::{Access, Assignment, Base, Copying, Expr};
 
 // What statements store to variables and to components.
 impl<'a> Walk<'a> {
@@ -34,10 +39,25 @@ impl<'a> Walk<'a> {
         visits.tick(assignment.number);
         let target = &assignment.target;
         let reach = self.access(target, &assignment.indexes, visits);
-        let known = self.expression(&assignment.value, visits);
-        let passed = self.flow.fitting(assignment.fits, known);
+        let valued = self.assigned_value(&assignment.value, visits);
+        let passed = self.flow.fitting(assignment.fits, valued.known);
         let reach = reach_stored(&target.selectors, holds_call(&assignment.value), reach);
-        self.assign_value(assignment, reach, passed);
+        self.assign_value(assignment, reach, &valued.notes, passed);
+    }
+
+    /// A value that is assigned: its operands are noted where certificates tell how variables grow.
+    fn assigned_value<C: Count>(&mut self, value: &Expr, visits: &mut C) -> Valued
+        ensures goes { Goes (assigned_walk value.now) self.old self.new (said_valued result) }
+        ensures counts { visits.new ≡ all_counted C.counted (entries_of_expression value.now) visits.old }
+    {
+        let mut notes = Vec::new(self.flow.state.alloc());
+        if self.flow.grounds.version.has(Extension::Growths) {
+            let known = self.flow.noting(value, &mut notes, visits);
+            Valued { known, notes }
+        } else {
+            let known = self.flow.expression(value, visits);
+            Valued { known, notes }
+        }
     }
 
     /// An assignment of a whole value.
@@ -55,21 +75,30 @@ impl<'a> Walk<'a> {
         self.copy_to(copying, reach, &ranges);
     }
 
-    /// What is accessed gets the value of an expression.
-    fn assign_value(&mut self, assignment: &Assignment, reach: Reach, passed: Known)
-        ensures { Goes (assign_value assignment.now (said_reach reach) passed) self.old self.new tt }
+    /// What is accessed gets the value of an expression, of which this was noted.
+    fn assign_value(
+        &mut self,
+        assignment: &Assignment,
+        reach: Reach,
+        notes: &[Noted],
+        passed: Known,
+    )
+        ensures { Goes (assign_value assignment.now (said_reach reach) notes.now passed) self.old self.new tt }
     {
-        let form = bound_form(self.flow.state.table(), &assignment.value);
+        let rows = self.flow.state.table();
+        let form = bound_form(rows, &assignment.value);
+        let step = value_step(rows, assignment.target.root, &assignment.value, notes);
         self.assign_to(
             assignment.becomes,
             &assignment.target,
             reach,
             passed.range(),
             form,
+            step,
         );
     }
 
-    /// What is accessed gets a value of a range, perhaps of a bound form.
+    /// What is accessed gets a value of a range, perhaps of a bound form, and perhaps by a step.
     pub(crate) fn assign_to(
         &mut self,
         place: Place,
@@ -77,13 +106,14 @@ impl<'a> Walk<'a> {
         reach: Reach,
         range: Interval,
         form: Option<Bound>,
+        step: Option<Interval>,
     )
         ensures { Goes (assign_to place (origin_of target.now) target.now.selectors.items (said_reach reach)
-            (said_form form) range) self.old self.new tt }
+            (said_form form) step range) self.old self.new tt }
     {
         if is_whole_variable(target) {
             self.change(place, target.root);
-            self.assigned(target.root, range, form);
+            self.assigned(target.root, range, form, step);
         } else {
             self.assign_component(place, target, reach, range);
         }
@@ -137,12 +167,18 @@ impl<'a> Walk<'a> {
         }
     }
 
-    /// A variable gets a value of a range, perhaps of a bound form; its aliases may have it.
-    pub(crate) fn assigned(&mut self, root: u32, range: Interval, form: Option<Bound>)
-        ensures { Goes (assign root (said_form form) range) self.old self.new tt }
+    /// A variable gets a value of a range, perhaps of a bound form, and perhaps by a step; its aliases may have it.
+    pub(crate) fn assigned(
+        &mut self,
+        root: u32,
+        range: Interval,
+        form: Option<Bound>,
+        step: Option<Interval>,
+    )
+        ensures { Goes (assign root (said_form form) step range) self.old self.new tt }
     {
         match self.aliases(root) {
-            Ok(aliases) => assign(&mut self.flow.state, &aliases, root, range, form),
+            Ok(aliases) => assign(&mut self.flow.state, &aliases, root, range, form, step),
             Err(error) => self.flow.state.run_short(error.into()),
         }
     }

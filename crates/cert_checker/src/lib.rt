@@ -10,6 +10,7 @@ ghost use Rattle.cert_checker.specs.Promise.{StatesHold, Valid};
 
 mod assignments;
 pub mod blocks;
+mod increments;
 pub mod laws;
 pub mod loops;
 mod names;

@@ -3,11 +3,14 @@ ghost use Rattle.checker_rows.specs.Limits.{limits_of};
 ghost use Rattle.checker_ways.specs.View.{said_way};
 ghost use Rattle.checker_loops.specs.Ways.{entered};
 ghost use Rattle.checker_expressions.specs.Walk.{changed_by, within};
-ghost use Rattle.cert_checker.specs.View.{AreLoops, EntersLoop, Goes, IsLoop, LeavesLoop, context_of};
-ghost use Rattle.cert_checker.specs.Walk.{begin_way, steady_in, tested_way};
+ghost use Rattle.checker_loops.specs.View.{claims_of_round, said_turns};
+ghost use Rattle.cert_checker.specs.View.{AreLoops, EntersLoop, Goes, IsLoop, LeavesLoop, claims_in, context_of};
+ghost use Rattle.cert_checker.specs.Walk.{begin_way, growths_entered, steady_in, tested_way, turn_from, turn_to};
+ghost use Rattle.cert_checker.specs.Walk.{turns_in};
 
 use crate::walk::Walk;
 use checker_expressions::fault::Rule;
+use checker_loops::growths::{Turns, depth_of};
 use checker_loops::rounds::Round;
 use checker_rows::limits;
 use checker_ways::ways::Way;
@@ -79,7 +82,7 @@ impl<'a> Walk<'a> {
         ensures { Goes (begin_way (said_way way.now)) self.old self.new tt }
     {
         self.enter_way(way);
-        self.assigned(way.control, way.first.values, way.first.form);
+        self.assigned(way.control, way.first.values, way.first.form, None);
     }
 
     /// Goes on where a first turn may begin.
@@ -87,6 +90,48 @@ impl<'a> Walk<'a> {
         ensures { Goes (changed_by (entered (said_way way.now))) self.old self.new tt }
     {
         way.enter(&mut self.flow.state);
+    }
+
+    /// What the turns of a way through the loop of a number go by.
+    pub fn turns_in(&self, number: u32, way: &Way) -> Turns<'a>
+        ensures turns_are { AreLoops (context_of self.now) self.now.aliases.now
+            → said_turns result ≡ turns_in (context_of self.now) number (said_way way.now) }
+        ensures claims_are { AreLoops (context_of self.now) self.now.aliases.now
+            → claims_of_round result.round ≡ claims_in number self.now }
+    {
+        Turns {
+            round: self.round(number, Some(way.control)),
+            depth: depth_of(&self.flow.grounds.rounds),
+            most: way.most(),
+        }
+    }
+
+    /// Growths have to be given before the first turn.
+    pub(crate) fn enter_turns(&mut self, turns: &Turns, place: Place)
+        ensures { Goes (growths_entered place (claims_of_round turns.now.round).facts) self.old self.new tt }
+    {
+        let given = turns.can_begin(&self.flow.state);
+        self.flow.ask(given, Rule::LoopEntry, place);
+    }
+
+    /// Goes on where a turn begins.
+    pub(crate) fn begin_turn(&mut self, way: &Way, turns: &Turns)
+        ensures { Goes (turn_from (said_turns turns.now) (claims_of_round turns.now.round).facts (said_way way.now))
+            self.old self.new tt }
+    {
+        way.begin_turn(&mut self.flow.state);
+        turns.begin(&mut self.flow.state);
+    }
+
+    /// Goes on where a turn ends and another follows: growths have to be given.
+    pub(crate) fn end_turn(&mut self, way: &Way, turns: &Turns, place: Place)
+        ensures { Goes (turn_to (said_turns turns.now) place (claims_of_round turns.now.round).facts (said_way way.now))
+            self.old self.new tt }
+    {
+        way.end_turn(&mut self.flow.state);
+        let grown = turns.are_given(&self.flow.state);
+        self.flow.ask(grown, Rule::LoopTurn, place);
+        turns.end(&mut self.flow.state);
     }
 
     /// The way with the forms of its bounds that the turns of its loop leave as they are.

@@ -4,6 +4,7 @@ ghost use Rattle.std.specs.Prelude.{◌≡◌, if◌then◌else◌, nat_eq, slic
 ghost use Rattle.std.specs.List.{list_all};
 ghost use Rattle.types.specs.Types.{is_scalar};
 ghost use Rattle.checker_calls.specs.Names.{block_is_known, bound_is_known, bound_roots, claims_are_known};
+ghost use Rattle.checker_calls.specs.Names.{counts_beside, is_integer_variable, is_other, loop_fact_is_known};
 ghost use Rattle.checker_calls.specs.Names.{exit_is_known, fact_is_known, fact_is_on, fact_roots, has_indexes};
 ghost use Rattle.checker_calls.specs.Names.{has_parameter, is_array, is_known, is_matrix, is_of_loops, is_own_result};
 ghost use Rattle.checker_calls.specs.Names.{is_round_about, names, pair_is_known, section_is_known, span_is_known};
@@ -126,7 +127,7 @@ fn is_own_result(tree: &Tree, block: u32, fact: &Fact) -> bool
             Spans::None => is_result(tree, block, path.root),
             Spans::One(_) | Spans::Two(_, _) => false,
         },
-        Fact::Order { .. } => false,
+        Fact::Order { .. } | Fact::Grows { .. } => false,
     }
 }
 
@@ -145,7 +146,61 @@ fn claims_are_known(rows: &Rows, block: u32, claims: &LoopClaims) -> bool
 {
     stands_in(rows.tree(), block, claims.number)
         && all_named(rows.tree(), block, Nameable::Visible, &claims.changes)
-        && facts_are_on(rows, block, Nameable::Visible, &claims.facts)
+        && loop_facts_are_known(rows, block, claims.number, &claims.facts)
+}
+
+fn loop_facts_are_known(rows: &Rows, block: u32, number: u32, facts: &[Fact]) -> bool
+    ensures { result ≡ list_all (loop_fact_is_known rows.now block (slice_get rows.now.loops.items number)) facts.now }
+{
+    facts
+        .iter()
+        .all(|fact| loop_fact_is_known(rows, block, number, fact))
+}
+
+/// Whether a fact of a loop names parts that are there, of variables that are visible, and whether a growth is one of a
+/// for statement, of another integer variable than that counts by.
+fn loop_fact_is_known(rows: &Rows, block: u32, number: u32, fact: &Fact) -> bool
+    ensures { result ≡ loop_fact_is_known rows.now block (slice_get rows.now.loops.items number) fact.now }
+{
+    match fact {
+        Fact::Grows { root, .. } => {
+            is_visible(rows.tree(), block, *root)
+                && is_integer_variable(rows.tree(), *root)
+                && counts_beside(rows.tree(), number, *root)
+        }
+        Fact::Range { .. } | Fact::Defined { .. } | Fact::Order { .. } => {
+            fact_is_on(rows, block, Nameable::Visible, fact)
+        }
+    }
+}
+
+/// Whether a variable is there, and of type integer or a subrange of it (6.4.2.2, 6.4.2.4).
+fn is_integer_variable(tree: &Tree, root: u32) -> bool
+    ensures { result ≡ is_integer_variable tree.now root }
+{
+    match tree.variables.get(root as usize) {
+        None => false,
+        Some(variable) => tree.types.host(variable.type_id).same(TypeTable::INTEGER),
+    }
+}
+
+/// Whether a loop is a for statement, and a variable isn't its control variable (6.8.3.9).
+fn counts_beside(tree: &Tree, number: u32, root: u32) -> bool
+    ensures { result ≡ counts_beside root (slice_get tree.now.loops.items number) }
+{
+    match tree.loops.get(number as usize) {
+        None => false,
+        Some(one) => is_other(root, one.control),
+    }
+}
+
+fn is_other(root: u32, control: Option<u32>) -> bool
+    ensures { result ≡ is_other root control }
+{
+    match control {
+        None => false,
+        Some(control) => root != control,
+    }
 }
 
 /// Whether a loop is there, and stands in a block.
@@ -222,6 +277,7 @@ fn fact_names(tree: &Tree, block: u32, nameable: Nameable, fact: &Fact) -> bool
         Fact::Order { root, other, .. } => {
             may_name(tree, block, nameable, *root) && may_name(tree, block, nameable, *other)
         }
+        Fact::Grows { root, .. } => may_name(tree, block, nameable, *root),
     }
 }
 
@@ -252,6 +308,7 @@ fn bound_names(tree: &Tree, block: u32, nameable: Nameable, bound: Bound) -> boo
     }
 }
 
+/// Whether a fact of a block names parts that are there; a growth is none of a block.
 fn fact_is_known(rows: &Rows, fact: &Fact) -> bool
     ensures { result ≡ fact_is_known rows.now fact.now }
 {
@@ -263,6 +320,7 @@ fn fact_is_known(rows: &Rows, fact: &Fact) -> bool
         Fact::Order { root, other, .. } => {
             rows.is_ordinal_variable(*root) && rows.is_ordinal_variable(*other)
         }
+        Fact::Grows { .. } => false,
     }
 }
 

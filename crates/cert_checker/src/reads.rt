@@ -43,7 +43,7 @@ impl<'a> Walk<'a> {
     {
         let place = point_place(self.flow.state.table().tree(), one.point, name);
         let reach = reach_stored(&one.access.selectors, false, reach);
-        self.assign_to(place, &one.access, reach, limits(one.range), None);
+        self.assign_to(place, &one.access, reach, limits(one.range), None, None);
     }
 }
 

@@ -106,15 +106,16 @@ fn range_at(ranges: &[Interval], place: usize) -> Interval
     ranges[place]
 }
 
-/// A variable gets a value of a range, perhaps of a bound form, and aliases may have it.
+/// A variable gets a value of a range, perhaps of a bound form, and perhaps by a step; aliases may have it.
 pub(crate) fn assign(
     state: &mut State,
     aliases: &[u32],
     root: u32,
     range: Interval,
     form: Option<Bound>,
+    step: Option<Interval>,
 )
-    ensures { Moves (λ known. assigned root range (unless_alias aliases.now (said_form form))
+    ensures { Moves (λ known. assigned root range (unless_alias aliases.now (said_form form)) step
         (with_aliases_stored state.old.table.now aliases.now
         (row_stored state.old.table.now (root, range) ∷ []) known)) state.old state.new }
 {
@@ -123,5 +124,5 @@ pub(crate) fn assign(
         range,
     };
     aliases::store(state, aliases, &[stored]);
-    state.assign(root, range, form_unless_alias(aliases, form));
+    state.assign(root, range, form_unless_alias(aliases, form), step);
 }

@@ -192,13 +192,16 @@ impl<'a> Walk<'a> {
         ensures counts { visits.new ≡ all_counted C.counted (entries_of_statement body.now) visits.old }
     {
         let steady = self.steady_in(head.loop_number, way);
-        self.enter_loop(head.loop_number, head.place, Some(way.control));
-        steady.begin_turn(&mut self.flow.state);
+        let turns = self.turns_in(head.loop_number, way);
+        self.enter_turns(&turns, head.place);
+        self.enter_loop(head.loop_number, head.place, Some(steady.control));
+        self.begin_turn(&steady, &turns);
         self.statement(body, visits);
         let mark = self.flow.state.mark();
-        steady.end_turn(&mut self.flow.state);
+        self.end_turn(&steady, &turns, head.place);
         self.leave_loop(head.loop_number, head.place);
         let _turn = self.flow.state.leave(mark);
+        turns.end(&mut self.flow.state);
         steady.leave(&mut self.flow.state);
     }
 

@@ -10,7 +10,7 @@ use Rattle.std.proofs.lemmas.Int.{ints}
 use Rattle.std.proofs.lemmas.List.{append-nil}
 use Rattle.domain.specs.Interval.{Interval}
 use Rattle.domain.specs.Facts.{Fact as VariableFact, Path, Span}
-use Rattle.domain.specs.Facts.{Range, Defined, Order}
+use Rattle.domain.specs.Facts.{Range, Defined, Order, Grows}
 use Rattle.domain.specs.Versions.{most_spans}
 use Rattle.domain.specs.declared.versions.Version.{Version}
 use Rattle.certificate.specs.Bounds.{bound_words, span_words}
@@ -23,6 +23,7 @@ use Rattle.certificate.specs.Lines.{reading, spanned_fact}
 use Rattle.certificate.specs.Paths.{path_words}
 use Rattle.certificate.specs.Text.{lines}
 use Rattle.certificate.specs.Words.{variable}
+use Rattle.certificate.proofs.GrowthLaws.{grow_above, grow_again}
 use Rattle.certificate.proofs.SpanLaws.{spans_above, spans_again}
 use Rattle.certificate.proofs.Numerals.{constant_again}
 use Rattle.certificate.proofs.PathLaws.{path_above, path_again}
@@ -93,6 +94,7 @@ fact_again : (version : Version) (fact : VariableFact) → is_fact version fact 
 fact_again version (Range path range) fits = range_fact_again version path range fits
 fact_again version (Defined path spans) fits = defined_again version path spans fits
 fact_again version (Order root other number) fits = order_fact_again version root other number fits
+fact_again version (Grows root growth) fits = grow_again version root growth fits
 
 pair_again : (version : Version) (pair : AliasPair) → is_claim version (Alias pair) ≡ true
     → pair_of (variable pair.first ++ 32 ∷ variable pair.second) ≡ Ok pair
@@ -143,6 +145,7 @@ fact_above version (Order root other number) fits =
     let bound = and_parts (is_small other) (is_constant number) small.1 in
     above_append 10 (decimal root) _ (number_above 10 root (omega arith) small.0)
     (above_append 10 (decimal other) _ (number_above 10 other (omega arith) bound.0) (constant_above 10 number (omega arith) bound.1))
+fact_above version (Grows root growth) fits = grow_above version root growth fits
 
 claim_above : (version : Version) (claim : Claim) → is_claim version claim ≡ true → are_above 10 (claim_words claim) ≡ true
 claim_above version (Alias pair) fits =

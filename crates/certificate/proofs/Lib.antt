@@ -2,6 +2,7 @@ pub mod Again
 pub mod BoundLaws
 pub mod ByWord
 pub mod Faults
+pub mod GrowthLaws
 pub mod InOrder
 pub mod LastChanged
 pub mod Nested

@@ -21,10 +21,11 @@ use Rattle.certificate.specs.declared.AliasPair.{AliasPair}
 use Rattle.certificate.specs.Building.{is_content}
 use Rattle.certificate.specs.Contents.{is_claim, is_constant, is_fact, is_path, is_plain, is_small}
 use Rattle.certificate.specs.Lines.{Claim, Alias, Change, Entry, Exit, Fact, Content, Block, Loop, Claimed, claim_of, claim_words, pair_of}
-use Rattle.certificate.specs.Lines.{defined_at, defined_fact, fact_of, fact_words, line_of, order_fact, range_fact, range_of}
+use Rattle.certificate.specs.Lines.{defined_at, defined_fact, fact_of, fact_words, grow_fact, line_of, order_fact, range_fact, range_of}
 use Rattle.certificate.specs.Lines.{reading, spanned_fact}
 use Rattle.certificate.specs.Paths.{path_of, path_words}
 use Rattle.certificate.specs.Words.{◌>>=◌, behind, both, constant_of, number_of, parted, variable, variable_of, when}
+use Rattle.certificate.proofs.GrowthLaws.{grow_spelled}
 use Rattle.certificate.proofs.SpanLaws.{spans_spelled}
 use Rattle.certificate.proofs.Numerals.{behind_some, bound_ok, constant_spelled, ok_is, when_ok}
 use Rattle.certificate.proofs.PathLaws.{path_spelled}
@@ -140,11 +141,17 @@ fact_spelled version words fact e =
                 let told = range_fact_spelled version found.0 fact found.2 in
                 (behind_some (codes "range ") words found.0 found.1 ∙ told.0, told.1)
             | inr order ↦
-                elim (when_ok (behind (codes "order ") words) order_fact (Err NotInGrammar) fact order) [
+                elim (when_ok (behind (codes "order ") words) order_fact _ fact order) [
                   | inl found ↦
                       let told = order_fact_spelled version found.0 fact found.2 in
                       (behind_some (codes "order ") words found.0 found.1 ∙ told.0, told.1)
-                  | inr fault ↦ absurd cc
+                  | inr grow ↦
+                      elim (when_ok (behind (codes "grow ") words) (grow_fact version) (Err NotInGrammar) fact grow) [
+                        | inl found ↦
+                            let told = grow_spelled version found.0 fact _ refl found.2 in
+                            (behind_some (codes "grow ") words found.0 found.1 ∙ told.0, told.1)
+                        | inr fault ↦ absurd cc
+                      ]
                 ]
           ]
     ]

@@ -6,7 +6,7 @@ use Rattle.std.specs.Global.{Vec}
 use Rattle.std.specs.List.{list_all}
 use Rattle.memory.specs.Refused.{the_refusal}
 use Rattle.domain.specs.Interval.{between}
-use Rattle.domain.specs.Facts.{Step, Path, Range, Defined, Order, said_spans}
+use Rattle.domain.specs.Facts.{Step, Path, Range, Defined, Order, Grows, said_spans}
 use Rattle.domain.specs.Facts.{Fact as VariableFact}
 use Rattle.domain.specs.declared.versions.Version.{Version}
 use Rattle.certificate.specs.declared.Section.{Section as KeptSection}
@@ -44,6 +44,7 @@ abbrev pub word_fact : FactWords → VariableFact
 word_fact (word.Range path first last) = Range (word_path path) (between first last)
 word_fact (word.Defined path spans) = Defined (word_path path) (said_spans spans)
 word_fact (word.Order root other number) = Order root other number
+word_fact (word.Grows root growth) = Grows root growth
 
 abbrev pub word_claim : KeptClaim → Claim
 word_claim (kept.Alias pair) = Alias pair

@@ -9,9 +9,12 @@ use Rattle.std.specs.Ordering.{is_lt, int_eq, nat_cmp, ordering_then}
 use Rattle.std.specs.declared.cmp.Ordering.TheVariants.{Equal}
 use Rattle.memory.specs.Refused.{the_refusal}
 use Rattle.domain.specs.Facts.{Step, Path, Bound, Span, Elements, Field, Number, Plus, Range, Defined, Order}
+use Rattle.domain.specs.Facts.{Grows}
 use Rattle.domain.specs.Facts.{Fact as VariableFact, said_path, said_spans, subject_order}
 use Rattle.domain.specs.Interval.{Interval}
-use Rattle.domain.specs.Versions.{most_spans}
+use Rattle.domain.specs.Versions.{has, most_spans}
+use Rattle.domain.specs.declared.growth.Growth.{Growth}
+use Rattle.domain.specs.declared.versions.Extension.TheVariants.{Growths}
 use Rattle.domain.specs.declared.versions.Version.{Version}
 use Rattle.domain.specs.declared.versions.Version.TheVariants.{One, Two}
 use Rattle.certificate.specs.declared.AliasPair.{AliasPair}
@@ -24,7 +27,8 @@ use Rattle.certificate.specs.declared.fault.ReadFault.{ReadFault}
 use Rattle.certificate.specs.declared.fault.ReadFault.TheVariants.{Memory}
 use Rattle.certificate.specs.Words.{most, maxint}
 use Rattle.certificate.specs.Paths.{is_name}
-use Rattle.certificate.specs.Lines.{Claim, Alias, Change, Entry, Exit, Fact, Content, Block, Loop, Claimed, line_of}
+use Rattle.certificate.specs.Lines.{Claim, Alias, Change, Entry, Exit, Fact, Content, Block, Loop, Claimed, ascends}
+use Rattle.certificate.specs.Lines.{line_of}
 
 -- what is claimed of a loop: what it changes, and the facts that hold whenever a turn begins
 pub record LoopClaims : Type 0 where
@@ -47,6 +51,7 @@ abbrev pub said_fact : KeptFact → VariableFact
 said_fact (kept.Range path range) = Range (said_path path) range
 said_fact (kept.Defined path spans) = Defined (said_path path) (said_spans spans)
 said_fact (kept.Order root other number) = Order root other number
+said_fact (kept.Grows root growth) = Grows root growth
 
 abbrev pub loop_of : KeptLoop → LoopClaims
 loop_of claims =
@@ -98,12 +103,19 @@ is_span span = is_bound span.first && is_bound span.last
 abbrev pub are_spans : Version → List Span → Bool
 are_spans version spans = nat_le (length spans) (most_spans version) && list_all is_span spans
 
--- a fact has right paths and spans, and its numbers are in range
+-- a growth has numbers in range, and no lower one above the upper one
+abbrev pub is_growth : Growth → Bool
+is_growth growth =
+    (is_constant growth.first && is_constant growth.first_step)
+    && ((is_constant growth.last && is_constant growth.last_step) && ascends growth)
+
+-- a fact has right paths and spans, its numbers are in range, and the version has its form
 abbrev pub is_fact : Version → VariableFact → Bool
 is_fact version (Range path range) =
     is_path true path && (is_constant range.first && (is_constant range.last && is_plain range))
 is_fact version (Defined path spans) = is_path false path && are_spans version spans
 is_fact version (Order root other number) = is_small root && (is_small other && is_constant number)
+is_fact version (Grows root growth) = has version Growths && (is_small root && is_growth growth)
 
 -- a claim's numbers are in range, and its facts right
 abbrev pub is_claim : Version → Claim → Bool

@@ -1,13 +1,17 @@
 -- The lines of a certificate below its heading: how a line spells what it says, and what a line says, if it is in the
 -- grammar and its numbers are in range. ISO 7185:1990 knows no certificates. It does not say where a line may stand.
-use Rattle.std.specs.Prelude.{ℕ, suc, ℤ, pos, true, false, not, ◌&&◌, ◌==◌, int_lt, if◌then◌else◌, List, [], ◌∷◌}
+use Rattle.std.specs.Prelude.{ℕ, suc, ℤ, pos, Bool, true, false, not, ◌&&◌, ◌==◌, int_le, int_lt, if◌then◌else◌}
+use Rattle.std.specs.Prelude.{List, [], ◌∷◌}
 use Rattle.std.specs.Prelude.{◌++◌, take, drop, position, Option, Some, None, Result, Ok, Err, codes, decimal}
 use Rattle.std.specs.List.{flat_map}
 use Rattle.std.specs.Ordering.{int_eq}
 use Rattle.std.specs.Fmt.{signed_decimal}
 use Rattle.domain.specs.Interval.{between}
-use Rattle.domain.specs.Facts.{Path, Range, Defined, Order}
+use Rattle.domain.specs.Facts.{Path, Range, Defined, Order, Grows}
 use Rattle.domain.specs.Facts.{Fact as VariableFact}
+use Rattle.domain.specs.Versions.{has}
+use Rattle.domain.specs.declared.growth.Growth.{Growth}
+use Rattle.domain.specs.declared.versions.Extension.TheVariants.{Growths}
 use Rattle.domain.specs.declared.versions.Version.{Version}
 use Rattle.certificate.specs.declared.AliasPair.{AliasPair}
 use Rattle.certificate.specs.declared.words.LineFault.{LineFault}
@@ -33,6 +37,13 @@ pub data Content : Type 0 where
 
 -- ---- how a line is spelled
 
+-- the numbers of a growth: the lower number and its step, and then the upper ones
+abbrev pub growth_words : Growth → List ℕ
+growth_words growth =
+    signed_decimal growth.first
+    ++ 32 ∷ (signed_decimal growth.first_step
+    ++ 32 ∷ (signed_decimal growth.last ++ 32 ∷ signed_decimal growth.last_step))
+
 -- the words of a fact: numbers are decimal, and one blank parts two words
 abbrev pub fact_words : VariableFact → List ℕ
 fact_words (Range path range) =
@@ -40,6 +51,7 @@ fact_words (Range path range) =
 fact_words (Defined path spans) = codes "defined " ++ path_words path ++ flat_map span_words spans
 fact_words (Order root other number) =
     codes "order " ++ variable root ++ 32 ∷ (variable other ++ 32 ∷ signed_decimal number)
+fact_words (Grows root growth) = codes "grow " ++ variable root ++ 32 ∷ growth_words growth
 
 -- the words of a claim
 abbrev pub claim_words : Claim → List ℕ
@@ -93,12 +105,50 @@ order_fact words = do
   parts ← both (variable_of first.0) (both (variable_of second.0) (constant_of second.1))
   Ok (Order parts.0 parts.1.0 parts.1.1)
 
+-- two numbers
+abbrev pub numbers_of : List ℕ → Result (ℤ × ℤ) LineFault
+numbers_of words = do
+  ends ← parted words
+  both (constant_of ends.0) (constant_of ends.1)
+
+-- neither lower number is above the upper one
+abbrev pub ascends : Growth → Bool
+ascends growth = int_le growth.first growth.last && int_le growth.first_step growth.last_step
+
+abbrev pub if_ascending : Growth → Result Growth LineFault
+if_ascending growth = if ascends growth then Ok growth else Err OutOfRange
+
+-- the growth between lower and upper numbers
+abbrev pub growth_between : (ℤ × ℤ) × (ℤ × ℤ) → Result Growth LineFault
+growth_between ((first, first_step), (last, last_step)) =
+    if_ascending (record { first = first; first_step = first_step; last = last; last_step = last_step })
+
+-- four numbers
+abbrev pub growth_of : List ℕ → Result Growth LineFault
+growth_of words = do
+  first ← parted words
+  second ← parted first.1
+  numbers ← both (both (constant_of first.0) (constant_of second.0)) (numbers_of second.1)
+  growth_between numbers
+
+-- a variable and a growth
+abbrev pub growing_fact : List ℕ → Result VariableFact LineFault
+growing_fact words = do
+  ends ← parted words
+  parts ← both (variable_of ends.0) (growth_of ends.1)
+  Ok (Grows parts.0 parts.1)
+
+-- the same, in a version that has growths
+abbrev pub grow_fact : Version → List ℕ → Result VariableFact LineFault
+grow_fact version words = if has version Growths then growing_fact words else Err NotInGrammar
+
 -- the words of a fact
 abbrev pub fact_of : Version → List ℕ → Result VariableFact LineFault
 fact_of version words =
     when (behind (codes "defined ") words) (defined_fact version)
     (when (behind (codes "range ") words) range_fact
-    (when (behind (codes "order ") words) order_fact (Err NotInGrammar)))
+    (when (behind (codes "order ") words) order_fact
+    (when (behind (codes "grow ") words) (grow_fact version) (Err NotInGrammar))))
 
 -- two variables
 abbrev pub pair_of : List ℕ → Result AliasPair LineFault

@@ -10,8 +10,9 @@ use crate::facts::Fact;
 use crate::paths::{PathWord, path_of};
 use crate::words::{LineFault, blank, both, constant_of, parted, variable_of};
 use domain::facts::Spans;
+use domain::growth::Growth;
 use domain::interval::Interval;
-use domain::versions::Version;
+use domain::versions::{Extension, Version};
 use std::alloc::{AllocError, Global};
 use std::cmp::Ordering;
 
@@ -35,10 +36,15 @@ pub(crate) enum FactWords<'a> {
         other: u32,
         number: i32,
     },
+    /// In version 2 `grow V C C C C`: the lower number and its step, and then the upper ones.
+    Grows {
+        root: u32,
+        growth: Growth,
+    },
 }
 
 impl<'a> FactWords<'a> {
-    /// How the fact stands to another in the order of facts, the numbers of ranges and orders aside.
+    /// How the fact stands to another in the order of facts, the numbers of ranges, orders and growths aside.
     pub(crate) fn compare_subjects(&self, other: &FactWords<'_>) -> Ordering
         ensures { result ≡ subject_order (word_fact self.now) (word_fact other.now) }
     {
@@ -58,8 +64,11 @@ impl<'a> FactWords<'a> {
                     ..
                 },
             ) => v.cmp(w).then(a.cmp(b)),
-            (FactWords::Range { .. }, _) | (_, FactWords::Order { .. }) => Ordering::Less,
-            (_, FactWords::Range { .. }) | (FactWords::Order { .. }, _) => Ordering::Greater,
+            (FactWords::Grows { root: v, .. }, FactWords::Grows { root: w, .. }) => v.cmp(w),
+            (FactWords::Range { .. }, _) | (_, FactWords::Grows { .. }) => Ordering::Less,
+            (_, FactWords::Range { .. }) | (FactWords::Grows { .. }, _) => Ordering::Greater,
+            (FactWords::Defined { .. }, _) => Ordering::Less,
+            (FactWords::Order { .. }, _) => Ordering::Greater,
         }
     }
 
@@ -89,6 +98,10 @@ impl<'a> FactWords<'a> {
                 other: *other,
                 number: *number,
             }),
+            FactWords::Grows { root, growth } => Ok(Fact::Grows {
+                root: *root,
+                growth: *growth,
+            }),
         }
     }
 }
@@ -105,6 +118,9 @@ pub(crate) fn fact_of(version: Version, words: &[u8]) -> Result<FactWords<'_>, L
     }
     if let Some(words) = words.strip_prefix(b"order ") {
         return order_fact(words);
+    }
+    if let Some(words) = words.strip_prefix(b"grow ") {
+        return grow_fact(version, words);
     }
     Err(LineFault::NotInGrammar)
 }
@@ -168,5 +184,53 @@ fn order_fact(words: &[u8]) -> Result<FactWords<'_>, LineFault>
         root,
         other,
         number,
+    })
+}
+
+/// The fact that a variable and a growth tell, in a version that has growths.
+fn grow_fact(version: Version, words: &[u8]) -> Result<FactWords<'_>, LineFault>
+    ensures { result_map_both word_fact (λ fault. fault) result ≡ spec.grow_fact version words.now }
+{
+    if !version.has(Extension::Growths) {
+        return Err(LineFault::NotInGrammar);
+    }
+    let (root, numbers) = parted(words)?;
+    let (root, growth) = both(variable_of(root), growth_of(numbers))?;
+    Ok(FactWords::Grows { root, growth })
+}
+
+/// The growth that four numbers tell.
+fn growth_of(words: &[u8]) -> Result<Growth, LineFault>
+    ensures { result ≡ spec.growth_of words.now }
+{
+    let (first, words) = parted(words)?;
+    let (first_step, words) = parted(words)?;
+    let lower = both(constant_of(first), constant_of(first_step));
+    let (lower, upper) = both(lower, numbers_of(words))?;
+    growth_between(lower, upper)
+}
+
+/// Two numbers.
+fn numbers_of(words: &[u8]) -> Result<(i32, i32), LineFault>
+    ensures { result ≡ spec.numbers_of words.now }
+{
+    let (first, second) = parted(words)?;
+    both(constant_of(first), constant_of(second))
+}
+
+/// The growth between lower and upper numbers, of which none of the lower is above the upper one.
+fn growth_between(lower: (i32, i32), upper: (i32, i32)) -> Result<Growth, LineFault>
+    ensures { result ≡ spec.growth_between (lower, upper) }
+{
+    let (first, first_step) = lower;
+    let (last, last_step) = upper;
+    if first > last || first_step > last_step {
+        return Err(LineFault::OutOfRange);
+    }
+    Ok(Growth {
+        first,
+        first_step,
+        last,
+        last_step,
     })
 }

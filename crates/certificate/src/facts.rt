@@ -3,10 +3,11 @@ ghost use Rattle.domain.specs.Facts.{subject_order};
 ghost use Rattle.certificate.specs.Contents.{said_fact};
 
 use domain::facts::{Path, Spans};
+use domain::growth::Growth;
 use domain::interval::Interval;
 use std::cmp::Ordering;
 
-/// A fact that a certificate claims. The numbers of its bounds are between -2147483647 and 2147483647.
+/// A fact that a certificate claims. The numbers of its bounds and its growth are between -2147483647 and 2147483647.
 #[derive(Drop)]
 pub enum Fact {
     /// Each defined value at the path lies in the range.
@@ -16,10 +17,13 @@ pub enum Fact {
     Defined { path: Path, spans: Spans },
     /// Both variables are defined, and the value of the first is at most that of the other plus the number.
     Order { root: u32, other: u32, number: i32 },
+    /// The variable, if it is defined, grows so with the turns of the loop, which is a for statement; of a version with
+    /// growths.
+    Grows { root: u32, growth: Growth },
 }
 
 impl Fact {
-    /// How the fact stands to another in the order of facts, the numbers of ranges and orders aside.
+    /// How the fact stands to another in the order of facts, the numbers of ranges, orders and growths aside.
     pub fn compare(&self, other: &Fact) -> Ordering
         ensures { result ≡ subject_order (said_fact self.now) (said_fact other.now) }
     {
@@ -40,8 +44,11 @@ impl Fact {
                     ..
                 },
             ) => v.cmp(w).then(a.cmp(b)),
-            (Fact::Range { .. }, _) | (_, Fact::Order { .. }) => Ordering::Less,
-            (_, Fact::Range { .. }) | (Fact::Order { .. }, _) => Ordering::Greater,
+            (Fact::Grows { root: v, .. }, Fact::Grows { root: w, .. }) => v.cmp(w),
+            (Fact::Range { .. }, _) | (_, Fact::Grows { .. }) => Ordering::Less,
+            (_, Fact::Range { .. }) | (Fact::Grows { .. }, _) => Ordering::Greater,
+            (Fact::Defined { .. }, _) => Ordering::Less,
+            (Fact::Order { .. }, _) => Ordering::Greater,
         }
     }
 }

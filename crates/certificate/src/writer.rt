@@ -1,12 +1,12 @@
 //! The spelling of a certificate, line by line.
-ghost use Rattle.std.specs.Prelude.{◌≡◌, [], ◌++◌, IfOk, IsTrue, decimal, map};
+ghost use Rattle.std.specs.Prelude.{◌≡◌, [], ◌∷◌, ◌++◌, IfOk, IsTrue, decimal, map};
 ghost use Rattle.std.specs.Fmt.{signed_decimal};
 ghost use Rattle.std.specs.List.{flat_map};
 ghost use Rattle.domain.specs.Facts.{said_bound, said_path, said_span, said_spans, said_step};
 ghost use Rattle.certificate.specs.Bounds.{bound_words, offset, span_words};
 ghost use Rattle.certificate.specs.Contents.{IsReadAs, Spells, are_in_order, contents, ended, heading, loop_of};
 ghost use Rattle.certificate.specs.Contents.{said_fact, section_of, spelling};
-ghost use Rattle.certificate.specs.Lines.{fact_words};
+ghost use Rattle.certificate.specs.Lines.{fact_words, growth_words};
 ghost use Rattle.certificate.specs.Paths.{path_words, step_words};
 ghost use Rattle.certificate.specs.Words.{variable};
 ghost use Rattle.certificate.specs.Writing.{Appends, alias_line, change_line, fact_line, loop_text, section_text};
@@ -16,6 +16,7 @@ use crate::fault::ReadFault;
 use crate::reader::{heading, read};
 use crate::{AliasPair, Certificate, LoopClaims, Section};
 use domain::facts::{Bound, Path, Span, Spans, Step};
+use domain::growth::Growth;
 use domain::versions::Version;
 use itoa::Buffer;
 use std::alloc::{AllocError, Global};
@@ -177,7 +178,25 @@ impl Writer {
                 self.variable(b" ", *other);
                 self.constant(b" ", i64::from(*number));
             }
+            Fact::Grows { root, growth } => {
+                self.variable(b"grow ", *root);
+                self.growth(growth);
+            }
         }
+    }
+
+    fn growth(&mut self, growth: &Growth)
+        ensures { Appends (32 ∷ growth_words growth.now) self.old self.new }
+    {
+        self.numbers(growth.first, growth.first_step);
+        self.numbers(growth.last, growth.last_step);
+    }
+
+    fn numbers(&mut self, first: i32, second: i32)
+        ensures { Appends (32 ∷ (signed_decimal first ++ 32 ∷ signed_decimal second)) self.old self.new }
+    {
+        self.constant(b" ", i64::from(first));
+        self.constant(b" ", i64::from(second));
     }
 
     fn spans(&mut self, spans: Spans)

@@ -17,7 +17,7 @@ use Rattle.typed_tree.specs.WellFormed.{is_round, is_visible, of_one, outline_of
 use Rattle.typed_tree.specs.declared.tree.Tree.{Tree}
 use Rattle.typed_tree.specs.declared.tree.Variable.{Variable}
 use Rattle.domain.specs.Hulls.{common-has_set_left}
-use Rattle.domain.specs.contracts.interval.IntervalDomain.TheImpl.Laws.{meet_has_left-law}
+use Rattle.domain.specs.Ranges.{common-has_left}
 use Rattle.meaning.specs.declared.store.Value.{Value}
 use Rattle.meaning.specs.declared.store.Value.TheVariants.{Members, Number}
 use Rattle.meaning.specs.Store.{Environment, Place, Store, stored}
@@ -170,7 +170,7 @@ pub record InTypes (tree : Tree) (env : Environment) (store : Store) : Type 0 wh
 
 -- a value of an ordinal type is an integer, and so is each member of a set
 pub type-integer : (types : List Form) (id : TypeId) (v : Value) → LiesIn types id v → IsIn integer v
-type-integer types id (Number n) (range, is, inside, kind) = meet_has_left-law integer (record { first = range.first; last = range.last }) n inside
+type-integer types id (Number n) (range, is, inside, kind) = common-has_left integer (record { first = range.first; last = range.last }) n inside
 type-integer types id (Members set) (range, is, (fits, each), kind) =
     (fits, common-has_set_left integer (record { first = range.first; last = range.last }) set each)
 

@@ -26,7 +26,7 @@ use Rattle.checker_state.proofs.Changed.{held-stays}
 use Rattle.checker_state.proofs.Lists.{head-or_tail, in-none}
 use Rattle.checker_state.proofs.Looped.{StateWhere, changed-where}
 use Rattle.checker_state.proofs.Ranged.{common-in, in-left, in-right}
-use Rattle.checker_state.proofs.Rows.{range-where, where-all}
+use Rattle.checker_state.proofs.Rows.{growth-stays, range-where, where-all}
 use Rattle.checker_loops.specs.Aliases.{same_types}
 use Rattle.checker_loops.specs.Sections.{BlockClaims}
 use Rattle.checker_loops.proofs.AliasedStores.{stored-of}
@@ -215,6 +215,7 @@ module _ (tree : Tree) (pairs : List (ℕ × ℕ)) (number : ℕ) (block : Block
             holds.ranges row steps v of_row (⊎_elim (λ free. untouched row steps v free of_row is) (λ was. was) claimed);
         defined = λ still is steps of_row. call-kept.defined (root_at row) refl steps (holds.defined row is steps of_row);
       })
+      (λ root free. growth-stays caller store after root (row_at known root).growth (λ n has. sym (kept root free []) ∙ has) (holds.growths root))
       (λ one listed free.
       held-stays before outer roots (λ root n apart has. kept root apart [] ∙ has) (all_parts tree)
       (λ row steps index of_row first has. call-kept.defined (root_at row) refl steps has) one free (holds.held one listed))

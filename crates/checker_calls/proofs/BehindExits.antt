@@ -88,6 +88,7 @@ IsOwnResult tree number (fact.Range path range) = IsResultOf tree number path.ro
 IsOwnResult tree number (fact.Defined path []) = IsResultOf tree number path.root
 IsOwnResult tree number (fact.Defined path (span ∷ spans)) = ⊥
 IsOwnResult tree number (fact.Order root other k) = ⊥
+IsOwnResult tree number (fact.Grows root growth) = ⊥
 
 -- what was passed to variables that are value parameters is as it was
 abbrev pub AreLasting : Tree → ℕ → List ℕ → List ℕ → Type 0
@@ -550,6 +551,7 @@ module _ (tree : Tree) (pairs : List (ℕ × ℕ)) (number : ℕ) (block : Block
       (λ b is. plus-here root (pos 0) m (m +ℤ pos 0) (fact.Order root other k) lasts (0, omega arith, refl) m_is refl b is)
       (λ b is. plus-here other k n (n +ℤ k) (fact.Order root other k) lasts (1, omega arith, refl) n_is refl b is)
       (omega (arith, ints, less)) known knows) may
+  exit-known (fact.Grows root growth) listed may known knows = knows
 
   exits-known : (facts : List Fact) → ((one : Fact) → Contains facts one → Contains claims.exit one)
       → ((one : Fact) → Contains facts one → MayEnd tree number claims.changes one) → (known : State) → KnowsHere known

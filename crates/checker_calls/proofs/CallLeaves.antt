@@ -132,6 +132,7 @@ module _ (tree : Tree) (pairs : List (ℕ × ℕ)) (number : ℕ) (block : Block
           (in-map (λ r. Range r range) (rows_named tree path) row (among-contains (rows_named tree path) row among)) steps v of_row is)
       own (fact.Defined path spans) listed = inside
       own (Order a b n) listed = inside
+      own (fact.Grows a growth) listed = inside
 
   in_types : InTypes tree callee after
   in_types = in-types tree pairs number (suc activations) callee after back.proper back.typed

@@ -82,6 +82,7 @@ abbrev pub fact_roots : Fact → List ℕ
 fact_roots (fact.Range path range) = path.root ∷ []
 fact_roots (fact.Defined path spans) = path.root ∷ flat_map span_roots spans
 fact_roots (fact.Order root other number) = root ∷ other ∷ []
+fact_roots (fact.Grows root growth) = root ∷ []
 
 -- the caller of a block may know each of them
 abbrev pub AreOutward : Tree → ℕ → Fact → Type 0
@@ -110,6 +111,7 @@ module _ (tree : Tree) (env : Environment) (state : State) (store : Store) (numb
       given-all (all_parts tree) (table_of tree) (are-rows tree) env state store (said tree (fact.Defined path (span ∷ spans))) numbers known given
   given-fact (fact.Order root other k) given =
       given-all (all_parts tree) (table_of tree) (are-rows tree) env state store (said tree (fact.Order root other k)) numbers known given
+  given-fact (fact.Grows root growth) given = All-nil HoldsThere
 
   pub given-claims : (facts : List Fact) → gives_claims tree state facts ≡ true → AllHold tree facts env store
   given-claims [] given = All-nil HoldsThere
@@ -613,6 +615,7 @@ module _ (tree : Tree) (pairs : List (ℕ × ℕ)) (number : ℕ) (block : Block
       each-row (rows_named tree path) (defined_of tree (span ∷ spans)) (spans-given path span spans outward is)
   claims-given (fact.Order root other k) outward is =
       All-cons HoldsHere (Holding (Ordered root other k)) [] (order-given root other k outward is) (All-nil HoldsHere)
+  claims-given (fact.Grows root growth) outward is = All-nil HoldsHere
 
   all-given : (facts : List Fact) → ((one : Fact) → Contains facts one → AreOutward tree number one) → list_all (is_given tree bindings state) facts ≡ true
       → AllHold tree facts callee behind

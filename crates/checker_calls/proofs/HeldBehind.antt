@@ -1,5 +1,5 @@
 -- What rests on some variables is held no longer where they change: all of it is left out at once.
-use Rattle.std.proofs.Common.{◌≡◌, ◌∙◌, sym, ap, ap₂, refl, ℕ, Bool, true, false, cond, not, ◌||◌, List, [], ◌∷◌, map, Option, Some, None}
+use Rattle.std.proofs.Common.{◌≡◌, ◌∙◌, sym, ap, ap₂, refl, ℕ, Bool, true, false, cond, not, ◌||◌, List, [], ◌∷◌, get_or, map, set, Option, Some, None}
 use Rattle.std.specs.Prelude.{filter}
 use Rattle.std.specs.List.{cons_option, filter_map, list_any}
 use Rattle.std.proofs.lemmas.Bool.{cond_both}
@@ -8,11 +8,11 @@ use Rattle.checker_state.specs.Bounds.{Bound, is_variable}
 use Rattle.checker_state.specs.Changes.{all_changed, all_with_bounds, both_there, bound_rests_on, changed, changed_bound, rests_on, span_between}
 use Rattle.checker_state.specs.Changes.{span_rests_on, stretch_of}
 use Rattle.checker_state.specs.Knows.{rests_on_any}
-use Rattle.checker_state.specs.State.{Dead, Facts, Held, Live, Ordered, Span, State, Stretched}
+use Rattle.checker_state.specs.State.{Dead, Facts, Held, Live, Ordered, RowState, Span, State, Stretched, no_row, with_growth}
 use Rattle.checker_state.specs.View.{said_held}
 use Rattle.checker_trail.specs.declared.state.State.{State as Kept}
 use Rattle.checker_known.specs.Known.{core, kept_by, viewed}
-use Rattle.checker_trail.specs.Trail.{over_held, seen}
+use Rattle.checker_trail.specs.Trail.{all_ungrown, over_held, seen}
 
 -- ---- one variable
 
@@ -73,14 +73,28 @@ all-kept : (held : List Held) → filter (λ one. true) held ≡ held
 all-kept [] = refl
 all-kept (one ∷ held) = ap (λ rest. one ∷ rest) (all-kept held)
 
+-- rows of which several variables aren't known to grow
+abbrev ungrown : List ℕ → List RowState → List RowState
+ungrown [] rows = rows
+ungrown (root ∷ roots) rows = ungrown roots (set rows root (record (get_or rows root no_row) { growth = None }))
+
 abbrev without : List ℕ → Facts → State
-without roots facts = Live (record facts { held = filter (λ one. not (rests_on_any roots one)) facts.held })
+without roots facts =
+    Live (record facts { rows = ungrown roots facts.rows; held = filter (λ one. not (rests_on_any roots one)) facts.held })
 
 live-kept : (roots : List ℕ) (facts : Facts) → all_changed roots (Live facts) ≡ without roots facts
 live-kept [] facts = ap (λ held. Live (record facts { held = held })) (sym (all-kept facts.held))
 live-kept (root ∷ roots) facts =
-    live-kept roots (record facts { held = filter_map (changed root None) facts.held })
-    ∙ ap (λ held. Live (record facts { held = held })) (held-kept root roots facts.held)
+    live-kept roots (record (with_growth root None facts) { held = filter_map (changed root None) facts.held })
+    ∙ ap (λ held. Live (record facts { rows = ungrown (root ∷ roots) facts.rows; held = held })) (held-kept root roots facts.held)
+
+live-ungrown : (roots : List ℕ) (facts : Facts) → all_ungrown roots (Live facts) ≡ Live (record facts { rows = ungrown roots facts.rows })
+live-ungrown [] facts = refl
+live-ungrown (root ∷ roots) facts = live-ungrown roots (with_growth root None facts)
+
+dead-ungrown : (roots : List ℕ) → all_ungrown roots Dead ≡ Dead
+dead-ungrown [] = refl
+dead-ungrown (root ∷ roots) = dead-ungrown roots
 
 dead-kept : (roots : List ℕ) → all_changed roots Dead ≡ Dead
 dead-kept [] = refl
@@ -92,17 +106,19 @@ kept-tests test [] = refl
 kept-tests test (one ∷ held) =
     ap (λ rest. cond (test (said_held one)) (said_held one ∷ rest) rest) (kept-tests test held)
 
--- those stay that rest on none of some variables
+-- those stay that rest on none of some variables, none of which is known to grow
 pub left-out : (state : Kept) (roots : List ℕ) (kept : List Bool)
     → kept ≡ map (λ one. not (rests_on_any roots (said_held one))) state.known.held.items
-    → over_held (kept_by kept) (seen state) ≡ all_changed roots (seen state)
+    → over_held (kept_by kept) (all_ungrown roots (seen state)) ≡ all_changed roots (seen state)
 left-out state roots kept is =
     let facts = viewed (core state.known) in
-    cond_both state.known.is_dead Dead (Live facts) (λ (known : State). over_held (kept_by kept) known ≡ all_changed roots known)
-    (λ dead. sym (dead-kept roots))
+    cond_both state.known.is_dead Dead (Live facts) (λ (known : State). over_held (kept_by kept) (all_ungrown roots known) ≡ all_changed roots known)
+    (λ dead. ap (over_held (kept_by kept)) (dead-ungrown roots) ∙ sym (dead-kept roots))
     (λ live.
-    ap (λ (tests : List Bool). Live (record facts { held = kept_by tests facts.held })) is
-    ∙ ap (λ (held : List Held). Live (record facts { held = held })) (kept-tests (λ one. not (rests_on_any roots one)) state.known.held.items)
+    ap (over_held (kept_by kept)) (live-ungrown roots facts)
+    ∙ ap (λ (tests : List Bool). Live (record facts { rows = ungrown roots facts.rows; held = kept_by tests facts.held })) is
+    ∙ ap (λ (held : List Held). Live (record facts { rows = ungrown roots facts.rows; held = held }))
+    (kept-tests (λ one. not (rests_on_any roots one)) state.known.held.items)
     ∙ sym (live-kept roots facts))
 
 -- ---- tests of several variables

@@ -28,7 +28,8 @@ use Rattle.checker_rows.specs.Limits.{limits_or_integer}
 use Rattle.checker_rows.specs.Rows.{Row, all_parts, is_structured_variable, no_parts, rows_of}
 use Rattle.checker_rows.proofs.Accessed.{IsOf}
 use Rattle.checker_rows.proofs.Numbered.{contains-has, parts-many, root-of_row, row-at}
-use Rattle.checker_state.specs.Holds.{FactsHold, HasValue, Holds, IsIn, moment, part_of, value_at}
+use Rattle.checker_state.specs.declared.growing.Growing.{Growing}
+use Rattle.checker_state.specs.Holds.{FactsHold, GrowthHolds, HasValue, Holds, IsIn, moment, part_of, value_at}
 use Rattle.checker_state.specs.Knows.{Knows}
 use Rattle.checker_state.specs.State.{Facts, Live, RowState, no_row, row_at}
 use Rattle.checker_loops.specs.Starts.{block_start, is_own, is_passed_value, row_start, rows_start}
@@ -105,6 +106,12 @@ module _ (tree : Tree) (pairs : List (ℕ × ℕ)) (number activations : ℕ) (v
   start-many from [] = refl
   start-many from (first ∷ all) = ap suc (start-many (suc from) all)
 
+  -- nothing grows there
+  start-still : (from k : ℕ) (all : List Row) → (slice_index_or (rows_start tree number from all) k no_row).growth ≡ None
+  start-still from k [] = refl
+  start-still from zero (first ∷ all) = refl
+  start-still from (suc k) (first ∷ all) = start-still (suc from) k all
+
   abbrev root_of : ℕ → ℕ
   root_of row = (slice_index_or (all_parts tree) row no_parts).root
 
@@ -144,6 +151,8 @@ module _ (tree : Tree) (pairs : List (ℕ × ℕ)) (number activations : ℕ) (v
         let inside = under-whole tree row steps of_row (λ within. not-true (is_structured_variable tree row) both.1) in
         defined (root_of row) variable.0 steps variable.1 variable.2
         (row-component tree (root_of row) row steps variable.0.type_id (own-type tree (root_of row) variable.0 variable.1) inside of_row);
+    growths = λ root.
+        subst (λ (growth : Option Growing). GrowthHolds root growth (moment visible store)) (sym (start-still 0 root rows)) tt;
     held = λ one inside. absurd (omega (arith, inside.1));
   }
 

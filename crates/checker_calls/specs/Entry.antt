@@ -163,7 +163,7 @@ are_borne tree bindings state [] bearers = list_all (is_defined_borne tree state
 are_borne tree bindings state (span ∷ spans) bearers =
     are_borne_between tree state bearers (limits_of tree state bindings (span ∷ spans))
 
--- a fact of the callee holds where it is called
+-- a fact of the callee holds where it is called; a growth, which none claims where it begins, isn't known to
 abbrev pub is_given : Tree → List Binding → State → fact.Fact → Bool
 is_given tree bindings state (fact.Range path range) =
     list_all (λ bearer. is_included (range_borne state bearer) range) (bearers_named tree bindings path)
@@ -172,6 +172,7 @@ is_given tree bindings state (fact.Defined path spans) =
 is_given tree bindings state (fact.Order root other number) =
     are_ordered state (limit_of_plus tree state bindings root (pos 0))
     (limit_of_plus tree state bindings other number)
+is_given tree bindings state (fact.Grows root growth) = false
 
 -- each fact of the callee holds where it is called; at a dead point each does
 abbrev pub are_given : Tree → List Binding → State → List fact.Fact → Bool

@@ -229,6 +229,7 @@ with_exit tree block bindings touches (fact.Defined path spans) state =
     else bearers_defined tree (exit_spans tree bindings touches spans) (bearers_named tree bindings path) state
 with_exit tree block bindings touches (fact.Order root other number) state =
     bounds_ordered (exit_plus tree bindings touches root (pos 0)) (exit_plus tree bindings touches other number) state
+with_exit tree block bindings touches (fact.Grows root growth) state = state
 
 abbrev pub with_exits : Tree → ℕ → List Binding → Touches → List fact.Fact → State → State
 with_exits tree block bindings touches [] state = state

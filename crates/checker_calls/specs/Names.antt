@@ -5,13 +5,13 @@ use Rattle.std.specs.Prelude.{ℕ, Bool, true, false, not, ◌&&◌, ◌||◌, L
 use Rattle.std.specs.Prelude.{if◌then◌else◌, length, nat_lt, slice_get}
 use Rattle.std.specs.List.{list_all}
 use Rattle.typed_tree.specs.WellFormed.{is_declared, is_local_kind, is_result_kind, is_value_kind, is_variable_kind}
-use Rattle.typed_tree.specs.WellFormed.{is_visible, outline_of}
+use Rattle.typed_tree.specs.WellFormed.{is_visible, of_one, outline_of}
 use Rattle.checker_state.specs.Loops.{is_among}
 use Rattle.certificate.specs.declared.AliasPair.{AliasPair}
 use Rattle.typed_tree.specs.declared.tree.Tree.{Tree}
 use Rattle.typed_tree.specs.declared.tree.Loop.{Loop}
 use Rattle.types.specs.Forms.{Form, Array}
-use Rattle.types.specs.Types.{form_at, is_scalar}
+use Rattle.types.specs.Types.{form_at, host_of, integer, is_same, is_scalar}
 use Rattle.types.specs.declared.form.TypeId.{TypeId}
 use Rattle.domain.specs.declared.facts.Bound.{Bound}
 use Rattle.domain.specs.declared.facts.Bound.TheVariants.{Number, Plus}
@@ -26,7 +26,7 @@ use Rattle.certificate.specs.declared.Certificate.{Certificate}
 use Rattle.certificate.specs.declared.LoopClaims.{LoopClaims}
 use Rattle.certificate.specs.declared.Section.{Section}
 use Rattle.certificate.specs.declared.facts.Fact.{Fact}
-use Rattle.certificate.specs.declared.facts.Fact.TheVariants.{Range, Defined, Order}
+use Rattle.certificate.specs.declared.facts.Fact.TheVariants.{Range, Defined, Order, Grows}
 
 -- a path names a part that is there, of whose type a test holds
 abbrev pub is_named : (TypeId → Bool) → Option Named → Bool
@@ -70,12 +70,13 @@ spans_are_known tree kept_spans.None = true
 spans_are_known tree (kept_spans.One span) = span_is_known tree span
 spans_are_known tree (kept_spans.Two span inner) = span_is_known tree span && span_is_known tree inner
 
--- a fact names parts of variables: a range those of an ordinal or a set type, spans elements; its bounds and the
--- variables of an order are of ordinal types
+-- a fact of a block names parts of variables: a range those of an ordinal or a set type, spans elements; its bounds and
+-- the variables of an order are of ordinal types; a growth is none of a block
 abbrev pub fact_is_known : Tree → Fact → Bool
 fact_is_known tree (Range path range) = names tree (is_scalar tree.types) path
 fact_is_known tree (Defined path spans) = names tree (has_indexes tree.types spans) path && spans_are_known tree spans
 fact_is_known tree (Order root other number) = is_ordinal_variable tree root && is_ordinal_variable tree other
+fact_is_known tree (Grows root growth) = false
 
 -- ---- the variables that a fact names
 
@@ -95,6 +96,7 @@ abbrev pub fact_roots : Fact → List ℕ
 fact_roots (Range path range) = path.root ∷ []
 fact_roots (Defined path spans) = path.root ∷ spans_roots spans
 fact_roots (Order root other number) = root ∷ other ∷ []
+fact_roots (Grows root growth) = root ∷ []
 
 -- a fact names parts that are there, of variables of which a test holds
 abbrev pub fact_is_on : Tree → (ℕ → Bool) → Fact → Bool
@@ -107,12 +109,34 @@ abbrev pub stands_in : ℕ → Option Loop → Bool
 stands_in block None = false
 stands_in block (Some one) = nat_eq one.block block
 
+-- a variable that is there is of type integer or a subrange of it (6.4.2.2, 6.4.2.4)
+abbrev pub is_integer_variable : Tree → ℕ → Bool
+is_integer_variable tree root =
+    of_one (λ variable. is_same (host_of tree.types variable.type_id) integer)
+    (slice_get tree.variables.items root)
+
+-- a loop is a for statement, and a variable isn't its control variable (6.8.3.9)
+abbrev pub is_other : ℕ → Option ℕ → Bool
+is_other root None = false
+is_other root (Some control) = not (nat_eq root control)
+
+abbrev pub counts_beside : ℕ → Option Loop → Bool
+counts_beside root None = false
+counts_beside root (Some one) = is_other root one.control
+
+-- a fact of a loop of a block names what one of the block may, of variables that are visible there; or a growth an
+-- integer variable that is visible, and the loop is a for statement with another control variable
+abbrev pub loop_fact_is_known : Tree → ℕ → Option Loop → Fact → Bool
+loop_fact_is_known tree block loop (Grows root growth) =
+    is_visible (outline_of tree) block root && (is_integer_variable tree root && counts_beside root loop)
+loop_fact_is_known tree block loop fact = fact_is_on tree (is_visible (outline_of tree) block) fact
+
 -- claims are on a loop of a block, and name variables that are visible there
 abbrev pub claims_are_known : Tree → ℕ → LoopClaims → Bool
 claims_are_known tree block claims =
     stands_in block (slice_get tree.loops.items claims.number)
     && (list_all (is_visible (outline_of tree) block) claims.changes.items
-    && list_all (fact_is_on tree (is_visible (outline_of tree) block)) claims.facts.items)
+    && list_all (loop_fact_is_known tree block (slice_get tree.loops.items claims.number)) claims.facts.items)
 
 -- ---- blocks
 

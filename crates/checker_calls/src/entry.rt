@@ -41,7 +41,7 @@ pub fn are_given(bindings: Bindings, state: &State, facts: &[Fact]) -> bool
     true
 }
 
-// Whether a fact of the callee holds where it is called.
+// Whether a fact of the callee holds where it is called. A growth, which none claims where it begins, isn't known to.
 fn is_given(bindings: Bindings, state: &State, fact: &Fact) -> bool
     ensures { result ≡ is_given state.now.table.now (said_bindings bindings.entry) (seen state.now)
         (said_fact fact.now) }
@@ -66,6 +66,7 @@ fn is_given(bindings: Bindings, state: &State, fact: &Fact) -> bool
             limit_above(state, bindings, *root, 0),
             limit_above(state, bindings, *other, *number),
         ),
+        Fact::Grows { .. } => false,
     }
 }
 

@@ -138,12 +138,15 @@ fn touch(state: &mut State, rows: &Rows, touches: &Touches)
     touch_roots(state, rows, touches);
 }
 
-// What rests on a variable that is touched is held no longer.
+// What rests on a variable that is touched is held no longer, and none of these is known to grow.
 fn forget(state: &mut State, touches: &Touches)
     ensures { Moves (all_changed touches.now.touched) state.old state.new }
 {
     match kept(state.alloc(), state.held(), touches) {
-        Ok(kept) => state.retain(&kept),
+        Ok(kept) => {
+            state.stop_growing(touches.touched());
+            state.retain(&kept);
+        }
         Err(error) => state.run_short(error.into()),
     }
 }
@@ -213,7 +216,7 @@ fn add_exit(
         state.old state.new }
 {
     match fact {
-        Fact::Range { .. } => {}
+        Fact::Range { .. } | Fact::Grows { .. } => {}
         Fact::Defined { path, spans } => {
             let outside = rows_outside(rows, block, bindings, path);
             let within = exit_spans(rows, bindings, touches, *spans);

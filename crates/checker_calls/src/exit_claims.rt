@@ -92,6 +92,7 @@ fn know(known: &mut Ranges, rows: &Rows, fact: &Fact) -> Result<(), AllocError>
         Fact::Range { path, range } => know_rows(known, rows, rows_named(rows, path), range),
         Fact::Defined { .. } => Ok(()),
         Fact::Order { .. } => Ok(()),
+        Fact::Grows { .. } => Ok(()),
     }
 }
 
@@ -138,5 +139,6 @@ fn claimed_of_row(rows: &Rows, row: usize, fact: &Fact, known: Interval) -> Inte
         }
         Fact::Defined { .. } => known,
         Fact::Order { .. } => known,
+        Fact::Grows { .. } => known,
     }
 }

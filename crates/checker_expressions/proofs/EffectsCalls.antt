@@ -37,7 +37,7 @@ use Rattle.checker_expressions.specs.Walk.{Context, Walking, ◌>>=◌, asked, b
 use Rattle.checker_expressions.specs.Walk.{call_change, call_entry, call_with, called_block, may_change, parameters_of}
 use Rattle.checker_state.proofs.Lists.{head-or_tail}
 use Rattle.checker_expressions.proofs.Sound.{kept-rule, unbroken-left, unbroken-right}
-use Rattle.checker_expressions.proofs.EffectsKept.{Keeps, Leaving, MayChange, MayWrite, Standing, leaves-itself, lies-itself, listing, under-write}
+use Rattle.checker_expressions.proofs.EffectsKept.{Keeps, Leaving, MayChange, MayWrite, Standing, leaves-itself, lies-itself, listing, turned, under-write}
 
 -- ---- walks that break no rule
 
@@ -81,6 +81,15 @@ pub record Grounds (tree : Tree) (blocks : List BlockClaims) (block : ℕ) (at :
   pub lists : (root : ℕ) (home : Place) → Contains (block_claims_at blocks block).changes root → at.visible.variables root ≡ Some home → at.may home
   pub own : (root : ℕ) (variable : DeclaredVariable) (home : Place) → slice_get tree.variables.items root ≡ Some variable
       → is_own block variable ≡ true → at.visible.variables root ≡ Some home → (at.settled ≤ home.activation) × MayWrite at home
+
+-- so it is whatever turns are finished
+pub grounds-turned : (tree : Tree) (blocks : List BlockClaims) (block : ℕ) (at : Standing) (turns : List ℕ) → Grounds tree blocks block at
+    → Grounds tree blocks block (turned at turns)
+grounds-turned tree blocks block at turns grounds = record {
+  few = grounds.few;
+  lists = grounds.lists;
+  own = grounds.own;
+}
 
 owned : (block : ℕ) (found : Option DeclaredVariable) → of_one (is_own block) found ≡ true
     → (variable : DeclaredVariable) × (found ≡ Some variable) × (is_own block variable ≡ true)

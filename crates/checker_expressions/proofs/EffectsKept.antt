@@ -43,6 +43,10 @@ pub record Standing : Type 1 where
   pub part_may : (between place : Place) → may between → LiesUnder between place → may place
   pub visible : Environment
 
+-- where it stands after other finished turns
+abbrev pub turned : Standing → List ℕ → Standing
+turned at turns = record at { visible = record at.visible { turns = turns } }
+
 -- what a piece leaves in earlier activations
 pub record LeavesSo (at : Standing) (before after : Store) : Type 0 where
   pub values : (place : Place) → place.activation < at.number → at.may place ⊎ (stored after place ≡ stored before place)
@@ -56,6 +60,14 @@ pub record Leaving (at : Standing) (before after : State) : Type 0 where
 -- an action leaves that, once the activation has begun
 pub record Keeps {A : Type 0} (at : Standing) (action : Action A) : Type 0 where
   pub left : (s : State) → at.number ≤ s.activations → Leaving at s (state_after (action s))
+
+-- it leaves that whatever turns are finished
+pub keeps-turned : {A : Type 0} (at : Standing) (turns others : List ℕ) (action : Action A) → Keeps (turned at others) action → Keeps (turned at turns) action
+keeps-turned at turns others action kept = record {
+  left = λ s begun.
+      let leaving = kept.left s begun in
+      record { grows = leaving.grows; leaves = record { values = leaving.leaves.values; defined = leaving.leaves.defined } };
+}
 
 -- ---- places
 

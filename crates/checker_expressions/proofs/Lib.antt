@@ -22,3 +22,6 @@ pub mod Unrolled
 pub mod InTurn
 pub mod RowUses
 pub mod OfCalls
+pub mod Notes
+pub mod Traced
+pub mod SoundNotes

@@ -35,7 +35,7 @@ use Rattle.typed_tree.specs.declared.tree.Expr.TheOpen.Expr-F.{Constant, Variabl
 use Rattle.typed_tree.specs.declared.tree.Expr.TheOpen.Passed-F.{Value as PassedValue, Whole as PassedWhole, Reference}
 use Rattle.typed_tree.specs.declared.tree.Expr.TheViews.{roll-Expr, roll-Link, roll-Passed}
 use Rattle.typed_tree.specs.declared.tree.Expr.TheFolds.{map-Expr, map-Link, map-Passed, fold-roll-Expr, fold-roll-Link, fold-roll-Passed, ind-Expr, ind-Passed}
-use Rattle.typed_tree.specs.declared.tree.Expr.TheFolds.{fold-Link}
+use Rattle.typed_tree.specs.declared.tree.Expr.TheFolds.{fold-Link, ind-Link}
 use Rattle.typed_tree.specs.Accesses as accesses
 use Rattle.typed_tree.specs.Accesses.{Origin, origin_of, root_of}
 use Rattle.typed_tree.specs.Kinds.{Held, are_ordinal_indexes, are_ordinals, expression_held, given, held_by, is_held, is_held_parameter, is_held_passed}
@@ -901,6 +901,14 @@ module _ (world : World) (block : ℕ) (env : Surroundings) (records : List Open
   pub value-sound : (e : Expr) (one : Scalar) → well_expr e ≡ true → is_held one (held_by e) ≡ true → begins e records ≡ true
       → Sound world block visible (IsHeld one) (value_of e env) (value_walk e)
   value-sound e one well held begin = each-sound e well one (held-is one (held_by e) held) begin
+
+  -- an operator, behind a value on the left
+  pub link-sound : (l : Link) → LinkIsSound l
+  link-sound =
+      ind-Link ValueIsSound ActualIsSound LinkIsSound
+      (λ x y is. subst (λ (z : Expr-F Expr Passed Link). ValueIsSound (roll-Expr z)) is (rolled-expr (plain_expr y) (value-layer y)))
+      (λ x y is. subst (λ (z : Passed-F Expr Passed Link). ActualIsSound (roll-Passed z)) is (rolled-passed (plain_passed y) (passed-sound_layer y)))
+      (λ x y is. subst (λ (z : Link-F Expr Passed Link). LinkIsSound (roll-Link z)) is (rolled-link (plain_link y) (link-layer y)))
 
   actual-sound : (p : Passed) → ActualIsSound p
   actual-sound =

@@ -1,5 +1,6 @@
 -- The walk over an expression and its entries, form by form.
-use Rattle.std.proofs.Common.{rules, ◌≡◌, ◌∙◌, ap, ap₂, refl, ◌||◌, ℕ, List, [], ◌∷◌, ◌++◌, map}
+use Rattle.std.proofs.Common.{rules, ◌≡◌, ◌∙◌, ap, ap₂, refl, Bool, ◌&&◌, ◌||◌, ℕ, ℤ, List, [], ◌∷◌, ◌++◌, map}
+use Rattle.std.specs.List.{list_all}
 use Rattle.std.specs.declared.alloc.Global.{Global}
 use Rattle.std.specs.declared.boxed.Box.{Box}
 use Rattle.std.specs.declared.vec.Vec.{Vec}
@@ -10,6 +11,7 @@ use Rattle.typed_tree.specs.declared.tree.Designator.{Designator}
 use Rattle.typed_tree.specs.declared.tree.Expr.{Expr}
 use Rattle.typed_tree.specs.declared.tree.Expr.TheVariants as expr
 use Rattle.typed_tree.specs.declared.tree.Expr.TheFolds.{fold-Link, the_lemmas}
+use Rattle.typed_tree.specs.declared.tree.InputTest.{InputTest}
 use Rattle.typed_tree.specs.declared.tree.Link.{Link}
 use Rattle.typed_tree.specs.declared.tree.Monadic.{Monadic}
 use Rattle.typed_tree.specs.declared.tree.Passed.{Passed}
@@ -25,6 +27,7 @@ use Rattle.typed_tree.specs.Entries.{passed_entries, whole_entries}
 use Rattle.checker_state.specs.declared.value.Known.{Known}
 use Rattle.checker_expressions.specs.View.{entries_of_link}
 use Rattle.checker_expressions.specs.Walk as walk
+use Rattle.checker_expressions.specs.Walk.{chain_noted, joins}
 use Rattle.checker_expressions.specs.Walk.{◌>>=◌, combined, enter, function_walk, in_turn, index_pieces, joint_of, link_walk, operated, ordinal}
 use Rattle.checker_expressions.specs.Walk.{passed_piece_of}
 use Rattle.checker_expressions.specs.Walk.{piece_of, related_walk, set_walk, value_passed, value_walk, variable_passed, variable_walk, whole_passed, whole_walk}
@@ -85,6 +88,54 @@ passed-Reference type_id access indexes = search (rules, the_lemmas)
 pub actuals-hold : (actuals : List Passed) → walk.actuals_hold_call (map passed_piece_of actuals) ≡ calls.actuals_hold_call actuals
 actuals-hold [] = refl
 actuals-hold (one ∷ more) = ap₂ (λ a b. a || b) (passed-holds one) (actuals-hold more)
+
+-- ---- what is noted
+
+pub link-right : (link : Link) → (joint_of link).right ≡ piece_of link.operand
+link-right link = search (rules, the_lemmas)
+
+link-operation : (link : Link) → (joint_of link).operation ≡ link.operation
+link-operation link = search (rules, the_lemmas)
+
+links-join : (links : List Link) → list_all (λ joint. joins joint.operation) (map joint_of links) ≡ list_all (λ link. joins link.operation) links
+links-join [] = refl
+links-join (link ∷ links) = ap₂ (λ (one more : Bool). one && more) (ap joins (link-operation link)) (links-join links)
+
+pub noted-Monadic : (number : ℕ) (operation : Monadic) (operand : Box Expr Global)
+    → (piece_of (expr.Monadic number operation operand)).noted ≡ (piece_of operand.value).noted
+noted-Monadic number operation operand = search (rules, the_lemmas)
+
+noted-chain : (first : Box Expr Global) (rest : Vec Link Global)
+    → (piece_of (expr.Chain first rest)).noted
+    ≡ chain_noted (list_all (λ joint. joins joint.operation) (map joint_of rest.items)) (piece_of first.value) (map joint_of rest.items)
+noted-chain first rest = search (rules, the_lemmas)
+
+pub noted-Chain : (first : Box Expr Global) (rest : Vec Link Global)
+    → (piece_of (expr.Chain first rest)).noted
+    ≡ chain_noted (list_all (λ link. joins link.operation) rest.items) (piece_of first.value) (map joint_of rest.items)
+noted-Chain first rest =
+    noted-chain first rest ∙ ap (λ (inside : Bool). chain_noted inside (piece_of first.value) (map joint_of rest.items)) (links-join rest.items)
+
+pub noted-Constant : (number : ℕ) (value : ℤ) → (piece_of (expr.Constant number value)).noted ≡ (λ context state. [])
+noted-Constant number value = search (rules, the_lemmas)
+
+pub noted-Variable : (access : Access) (indexes : Vec Expr Global) (holds : Scalar) (defined : ℕ)
+    → (piece_of (expr.Variable access indexes holds defined)).noted ≡ (λ context state. [])
+noted-Variable access indexes holds defined = search (rules, the_lemmas)
+
+pub noted-Set : (number : ℕ) (designators : Vec Designator Global) (members : Vec Expr Global)
+    → (piece_of (expr.Set number designators members)).noted ≡ (λ context state. [])
+noted-Set number designators members = search (rules, the_lemmas)
+
+pub noted-Compare : (number : ℕ) (relation : Relation) (left : Whole) (left_indexes : Vec Expr Global) (right : Whole) (right_indexes : Vec Expr Global)
+    → (piece_of (expr.Compare number relation left left_indexes right right_indexes)).noted ≡ (λ context state. [])
+noted-Compare number relation left left_indexes right right_indexes = search (rules, the_lemmas)
+
+pub noted-Call : (call : Call) (actuals : Vec Passed Global) → (piece_of (expr.Call call actuals)).noted ≡ (λ context state. [])
+noted-Call call actuals = search (rules, the_lemmas)
+
+pub noted-Input : (number : ℕ) (asks : InputTest) → (piece_of (expr.Input number asks)).noted ≡ (λ context state. [])
+noted-Input number asks = search (rules, the_lemmas)
 
 -- ---- the entries
 

@@ -58,6 +58,7 @@ use Rattle.meaning.specs.Meaning.{overflow_of, overflow_of_both}
 use Rattle.checker_expressions.specs.declared.fault.Breach.{Breach}
 use Rattle.checker_expressions.specs.declared.fault.Rule.{Rule}
 use Rattle.checker_expressions.specs.declared.fault.Rule.TheVariants.{Aliases, CallEntry, Changes}
+use Rattle.checker_expressions.specs.declared.noting.Noted.{Noted}
 use Rattle.checker_state.specs.declared.value.Known.{Known}
 use Rattle.checker_state.specs.declared.value.Known.TheVariants.{Ordinal, Set}
 use Rattle.checker_state.specs.Values.{is_closed_member, is_closed_range, known_range, no_members, operated_sets}
@@ -362,12 +363,17 @@ behind_next [] = []
 behind_next (Element fits cells ∷ selectors) = selectors
 behind_next (Field position offset ∷ selectors) = behind_next selectors
 
--- an expression: its walk, its form, as far as that is part of a bound form, by which variables are ordinals, and
--- whether it holds a call
+-- what is noted in an expression of the operands of its operators, in the order in which they stand
+abbrev pub Noting : Type 0
+Noting = Context → State → List Noted
+
+-- an expression: its walk, its form, as far as that is part of a bound form, by which variables are ordinals, whether
+-- it holds a call, and what is noted in it
 pub record Piece : Type 0 where
   pub walk : Walking Known
   pub form : (ordinal : ℕ → Bool) → Form
   pub holds_call : Bool
+  pub noted : Noting
 
 -- an actual parameter: its walk, and whether it holds a call
 pub record PassedPiece : Type 0 where
@@ -544,11 +550,13 @@ related_walk number right indexes = do
 abbrev pub Combination : Type 0
 Combination = Known → Walking Known
 
--- an operator with its right operand: its walk, the form of the operand, and whether that holds a call
+-- an operator with its right operand: its walk, the form of the operand, whether that holds a call, and the operand
 pub record Joint : Type 0 where
   pub combination : Combination
   pub operand : (ordinal : ℕ → Bool) → Operand
   pub holds_call : Bool
+  pub operation : Dyadic
+  pub right : Piece
 
 -- the right operand, and then the operation
 abbrev pub combination_of : Link-F Piece PassedPiece Joint → Combination
@@ -562,6 +570,8 @@ link_step link = record {
   combination = combination_of link;
   operand = λ ordinal. record { operation = link.operation; form = link.operand.form ordinal };
   holds_call = link.operand.holds_call;
+  operation = link.operation;
+  right = link.operand;
 }
 
 -- the operators of a chain, from left to right
@@ -570,6 +580,37 @@ in_turn [] left = give left
 in_turn (link ∷ links) left = do
   result ← link left
   in_turn links result
+
+-- ---- notes
+
+-- `and` and `or` join conditions
+abbrev pub joins : Dyadic → Bool
+joins dyadic.And = true
+joins dyadic.Or = true
+joins operation = false
+
+-- what is noted at an operator, by what is known to its left: both operands, or what is noted inside the right one
+abbrev pub operand_noted : (inside : Bool) → Known → Piece → Noting
+operand_noted true left right context state = right.noted context state
+operand_noted false left right context state =
+    record { left = left; right = (right.walk context state).value } ∷ []
+
+-- at the operators of a chain, from left to right
+abbrev pub turns_noted : (inside : Bool) → List Joint → Known → Noting
+turns_noted inside [] left context state = []
+turns_noted inside (joint ∷ joints) left context state =
+    let done = joint.combination left context state in
+    operand_noted inside left joint.right context state ++ turns_noted inside joints done.value context done.after
+
+-- in a chain: the operands of each operator, or what is noted inside all operands
+abbrev pub first_noted : (inside : Bool) → Piece → Noting
+first_noted true first context state = first.noted context state
+first_noted false first context state = []
+
+abbrev pub chain_noted : (inside : Bool) → Piece → List Joint → Noting
+chain_noted inside first joints context state =
+    let done = first.walk context state in
+    first_noted inside first context state ++ turns_noted inside joints done.value context done.after
 
 -- ---- calls
 
@@ -741,9 +782,20 @@ holds_step (Compare number relation left left_indexes right right_indexes) =
 holds_step (CallOf call actuals) = true
 holds_step (Input number asks) = false
 
+-- and what is noted in it: an entry changes nothing that is known
+abbrev pub noted_step : Expr-F Piece PassedPiece Joint → Noting
+noted_step (MonadicOf number operation operand) context state = operand.value.noted context state
+noted_step (Chain first rest) context state =
+    chain_noted (list_all (λ joint. joins joint.operation) rest.items) first.value rest.items context state
+noted_step other context state = []
+
 abbrev pub piece_step : Expr-F Piece PassedPiece Joint → Piece
-piece_step expression =
-    record { walk = walk_step expression; form = form_step expression; holds_call = holds_step expression }
+piece_step expression = record {
+  walk = walk_step expression;
+  form = form_step expression;
+  holds_call = holds_step expression;
+  noted = noted_step expression;
+}
 
 -- the walk over an operator and its right operand
 abbrev pub joint_of : Link → Joint
@@ -762,6 +814,29 @@ passed_piece_of = fold-Passed Piece PassedPiece Joint piece_step passed_step lin
 
 abbrev pub value_walk : Expr → Walking Known
 value_walk expression = (piece_of expression).walk
+
+-- what is known of a value, and what was noted on the way to it
+pub record Valued : Type 0 where
+  pub known : Known
+  pub noted : List Noted
+
+-- what was walked to a value, with what was noted
+abbrev pub valued : List Noted → Walked Known → Walked Valued
+valued noted walked = record {
+  value = record { known = walked.value; noted = noted };
+  after = walked.after;
+  open_ids = walked.open_ids;
+  broken = walked.broken;
+  linked = walked.linked;
+}
+
+-- a walk with what is noted in it, behind what was noted before
+abbrev pub with_noted : List Noted → Noting → Walking Known → Walking Valued
+with_noted before noting walking context state = valued (before ++ noting context state) (walking context state)
+
+-- so the walk over an expression
+abbrev pub noting_walk : List Noted → Expr → Walking Valued
+noting_walk before expression = with_noted before (piece_of expression).noted (value_walk expression)
 
 -- index expressions
 abbrev pub index_pieces : List Expr → List Piece

@@ -8,6 +8,7 @@ pub mod fault;
 pub mod flow;
 mod gathering;
 pub mod grounds;
+pub mod noting;
 mod operations;
 mod results;
 mod uses;

@@ -10,6 +10,7 @@ pub mod Finds
 pub mod Tests
 pub mod Longer
 pub mod Types
+pub mod Growing
 pub mod Arrivals
 pub mod HeldGiven
 pub mod Within

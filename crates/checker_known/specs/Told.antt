@@ -1,6 +1,6 @@
 -- What the end of a way tells of what is held elsewhere, and of rows that were changed. It does not say what is known
 -- where two ways meet.
-use Rattle.std.specs.Prelude.{◌≡◌, ◌&&◌, ◌||◌, Bool, ℕ, List, [], ◌∷◌, false, filter, flat_map, map}
+use Rattle.std.specs.Prelude.{◌≡◌, ◌&&◌, ◌||◌, Bool, ℕ, List, [], ◌∷◌, None, false, filter, flat_map, map}
 use Rattle.std.specs.Prelude.{slice_index_or}
 use Rattle.domain.specs.Interval.{joined, vacant}
 use Rattle.checker_state.specs.declared.held.Held.{Held as KeptHeld}
@@ -9,6 +9,7 @@ use Rattle.checker_known.specs.declared.told.Told.{Told}
 use Rattle.checker_known.specs.declared.known.Row.{Row}
 use Rattle.checker_known.specs.declared.change.Change.{Change}
 use Rattle.checker_known.specs.declared.change.Change.TheVariants as change
+use Rattle.checker_state.specs.Growths.{joined_growth}
 use Rattle.checker_state.specs.State.{Facts, Held, Ordered, RowState, State, Stretched, Table, gives, has_number}
 use Rattle.checker_state.specs.State.{have_values, with_more}
 use Rattle.checker_state.specs.State.{is_whole, row_at}
@@ -32,7 +33,7 @@ rows_changed changes = flat_map row_changed changes
 
 -- what stands for a row that isn't there
 abbrev pub none : Row
-none = record { range = vacant; is_defined = false }
+none = record { range = vacant; is_defined = false; growth = None }
 
 -- what is known of a row at the end of a way
 abbrev pub arrival_at : Table → Core → ℕ → Arrival
@@ -55,6 +56,7 @@ joined_at table one other = (
     is_defined =
         ((row_at one other.row).is_defined && other.is_whole)
         || (other.known.is_defined && is_whole table one other.row);
+    growth = joined_growth (row_at one other.row).growth other.known.growth;
   },
 )
 

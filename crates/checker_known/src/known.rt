@@ -4,12 +4,13 @@ ghost use Rattle.checker_state.specs.View.{said_held};
 ghost use Rattle.checker_known.specs.Knots.{AreCounted};
 ghost use Rattle.checker_known.specs.Order.{disorder_of};
 ghost use Rattle.checker_known.specs.Resting.{AreListed};
+ghost use Rattle.checker_known.specs.View.{growing_in, one_if, said_row};
 
 use crate::change::Change;
 use crate::knots::{knot_at, knots_around, recount};
 use crate::order::{wrong_around, wrong_at};
 use crate::resting::Resting;
-use checker_state::Held;
+use checker_state::{Growing, Held, is_same_growth};
 use domain::interval::Interval;
 use domain::versions::Version;
 use std::alloc::{AllocError, AllocFailed};
@@ -21,6 +22,8 @@ pub struct Row {
     pub range: Interval,
     /// Whether each is defined.
     pub is_defined: bool,
+    /// How the variable of the row grows with the turns of a for statement.
+    pub growth: Option<Growing>,
 }
 
 impl Row {
@@ -28,6 +31,7 @@ impl Row {
     pub const NONE: Row = Row {
         range: Interval::EMPTY,
         is_defined: false,
+        growth: None,
     };
 
     /// Whether the same is known of two rows.
@@ -37,6 +41,17 @@ impl Row {
         self.range.first() == other.range.first()
             && self.range.last() == other.range.last()
             && self.is_defined == other.is_defined
+            && is_same_growth(self.growth, other.growth)
+    }
+
+    // One, if its variable grows.
+    fn grown(&self) -> usize
+        ensures { result ≡ one_if self.now.growth }
+    {
+        match self.growth {
+            None => 0,
+            Some(_) => 1,
+        }
     }
 }
 
@@ -45,6 +60,8 @@ impl Row {
 pub struct Known {
     /// What is known of rows, by the number of the row.
     pub rows: Vec<Row>,
+    /// Of how many rows the variable grows.
+    pub growing: usize,
     /// What is held, in its order, each once, but where bounds are about to take the places of variables.
     pub held: Vec<Held>,
     /// How many of these don't come before the next.
@@ -57,6 +74,7 @@ pub struct Known {
     pub is_dead: bool,
     /// The version of certificates by whose rules it is known.
     pub rules: Version,
+    pub ghost growing_counted: { growing ≡ growing_in (map said_row rows.items) },
     pub ghost counted: { disorder ≡ disorder_of (map said_held held.items) },
     pub ghost knots_counted: { AreCounted knots.items (map said_held held.items) },
     pub ghost all_listed: { resting.is_whole ≡ true → AreListed resting.lists.items (map said_held held.items) },
@@ -67,7 +85,6 @@ impl Known {
     ghost use Rattle.std.specs.List.{insert, remove};
     ghost use Rattle.checker_state.specs.State.{row_at};
     ghost use Rattle.checker_known.specs.Known.{AllGrew, core, made, viewed};
-    ghost use Rattle.checker_known.specs.View.{said_row};
 
     /// What is known of a row.
     pub fn row(&self, row: usize) -> Row
@@ -103,7 +120,9 @@ impl Known {
         ensures told { AllGrew self.new → AllGrew self.old }
     {
         if row < self.rows.len() {
+            let was = self.rows[row].grown();
             self.rows[row] = now;
+            self.growing = self.growing - was + now.grown();
         }
     }
 

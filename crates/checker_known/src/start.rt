@@ -20,6 +20,7 @@ impl Known {
         let resting = Resting::of(alloc, table.variables())?;
         Ok(Known {
             rows,
+            growing: 0,
             held: Vec::new(alloc),
             disorder: 0,
             knots,
@@ -39,6 +40,7 @@ fn type_rows(alloc: Global, table: &Rows) -> Result<Vec<Row>, AllocError>
         rows.push(Row {
             range: table.row_limits(row),
             is_defined: false,
+            growth: None,
         })?;
     }
     Ok(rows)

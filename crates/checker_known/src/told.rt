@@ -7,7 +7,7 @@ ghost use Rattle.checker_known.specs.Order.{disorder_of};
 use crate::change::{Branch, Change};
 use crate::known::{Known, Row};
 use checker_rows::Rows;
-use checker_state::Held;
+use checker_state::{Held, joined_growth};
 use domain::Domain;
 use std::alloc::{AllocError, Global};
 use std::cmp::Ordering;
@@ -215,6 +215,7 @@ impl Known {
             range: one.range.join(&other.known.range),
             is_defined: one.is_defined && other.is_whole
                 || other.known.is_defined && self.is_whole(table, other.row),
+            growth: joined_growth(one.growth, other.known.growth),
         }
     }
 }

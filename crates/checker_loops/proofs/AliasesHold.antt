@@ -1,18 +1,18 @@
 -- What is known after a store through one variable of its aliases: it holds where the state did, before the store, and rests on no value that an alias may
 -- have got.
-use Rattle.std.proofs.Common.{arith, ◌≡◌, ⊎_elim, ◌⊎◌, inl, inr, sym, ap, refl, subst, ℕ, zero, suc, ◌<◌, Bool, true, false, cond, nat_eq, List, []}
+use Rattle.std.proofs.Common.{arith, ◌≡◌, ◌∙◌, ⊎_elim, ◌⊎◌, inl, inr, sym, ap, refl, subst, ℕ, zero, suc, ◌<◌, Bool, true, false, cond, nat_eq, List, []}
 use Rattle.std.proofs.Common.{◌∷◌, get_or, length, set, Some, None}
 use Rattle.std.specs.Prelude.{slice_index_or}
 use Rattle.std.specs.List.{Contains}
-use Rattle.std.proofs.lemmas.Bool.{eqb-true, or_cases, or_from}
-use Rattle.std.proofs.lemmas.List.{get_or-set_same, length-set}
+use Rattle.std.proofs.lemmas.Bool.{cases_lt, eqb-true, or_cases, or_from}
+use Rattle.std.proofs.lemmas.List.{get_or-set_same, get_or_past, length-set}
 use Rattle.types.specs.declared.form.Step.{Step}
 use Rattle.typed_tree.specs.declared.tree.Tree.{Tree}
 use Rattle.domain.specs.Interval.{Interval, joined}
 use Rattle.meaning.specs.declared.store.Value.{Value}
 use Rattle.meaning.specs.Store.{Environment, Store}
 use Rattle.checker_rows.specs.Rows.{Parts, all_parts, no_parts, rows_of, rows_under, type_at}
-use Rattle.checker_state.specs.State.{Dead, Held, Live, RowState, State, no_row, range_of, row_at, with_row}
+use Rattle.checker_state.specs.State.{Dead, Held, Live, RowState, State, no_row, range_of, row_at, with_growth, with_row}
 use Rattle.checker_state.specs.Changes.{all_changed, changed, rests_on, with_change}
 use Rattle.checker_state.specs.Loops.{is_among}
 use Rattle.checker_state.specs.Holds.{IsIn, IsOfRow, Moment, StateHolds, HeldHolds, component_at, moment}
@@ -21,7 +21,7 @@ use Rattle.checker_state.specs.Stores.{with_joined}
 use Rattle.checker_state.proofs.Lists.{Each, in-filter_map}
 use Rattle.checker_state.proofs.Looped.{range-lies, unchanged}
 use Rattle.checker_state.proofs.Ranged.{in-left, in-right}
-use Rattle.checker_state.proofs.Rows.{of_row-within, range-holds}
+use Rattle.checker_state.proofs.Rows.{Any_value, all-where, growth-where, of_row-within, range-holds, where-all}
 use Rattle.checker_loops.specs.Aliases.{Stored, alias_joined, aliases_joined, all_joined_to, rows_joined, same_types, with_aliases_stored}
 
 -- ---- what rests on aliases is held no longer
@@ -63,10 +63,13 @@ left-holds : (rows : List Parts) (m : Moment) (roots : List ℕ) (state : State)
 left-holds rows m [] state holds = holds
 left-holds rows m (root ∷ roots) Dead holds = absurd holds
 left-holds rows m (root ∷ roots) (Live known) holds =
+    let left = where-all rows m (Any_value rows m) (λ row steps v. tt) (with_growth root None known)
+    (growth-where rows m (Any_value rows m) [] known root None tt (all-where rows m known holds)) in
     left-holds rows m roots (with_change root None (Live known)) (record {
-      count = holds.count;
-      ranges = holds.ranges;
-      defined = holds.defined;
+      count = left.count;
+      ranges = left.ranges;
+      defined = left.defined;
+      growths = left.growths;
       held = λ one listed. (left-one root (λ h. HeldHolds rows h m) (Live known) holds.held one listed).1;
     })
 
@@ -121,15 +124,7 @@ module _ (tree : Tree) (Q P : State → Type 0) (before : Grows Q) (behind : Gro
       all-join stored aliases (aliases_joined tree first aliases state) (k, omega (arith, within), is) among
       (aliases-grow tree Q before first aliases state so)
 
--- ---- the range of a row
-
--- a state has a row
-abbrev HasRow : ℕ → State → Type 0
-HasRow row Dead = ⊥
-HasRow row (Live known) = row < length known.rows
-
-abbrev InRow : ℕ → Value → State → Type 0
-InRow row v state = IsIn (range_of state row) v
+-- ---- how variables grow
 
 -- a row after one was set
 set-at : (rows : List RowState) (row other : ℕ) (state : RowState)
@@ -141,6 +136,60 @@ set-at (first ∷ rows) (suc row) zero state = inl refl
 set-at (first ∷ rows) (suc row) (suc other) state =
     ⊎_elim (λ kept. inl kept) (λ (both : (row ≡ other) × (get_or (set rows row state) other no_row ≡ state)). inr (ap suc both.0, both.1))
     (set-at rows row other state)
+
+-- a variable isn't known to grow
+abbrev NoGrowth : ℕ → State → Type 0
+NoGrowth root Dead = Unit {0}
+NoGrowth root (Live known) = (row_at known root).growth ≡ None
+
+none-grows : (root : ℕ) → Grows (NoGrowth root)
+none-grows root other range Dead none = none
+none-grows root other range (Live known) none =
+    let new : RowState = record (row_at known other) { range = joined (row_at known other).range range } in
+    ⊎_elim (λ kept. ap (λ (s : RowState). s.growth) kept ∙ none)
+    (λ (both : (other ≡ root) × (row_at (with_row other new known) root ≡ new)).
+    ap (λ (s : RowState). s.growth) both.1 ∙ ap (λ (r : ℕ). (row_at known r).growth) both.0 ∙ none)
+    (set-at known.rows other root new)
+
+changed-none : (root other : ℕ) (state : State) → NoGrowth root state → NoGrowth root (with_change other None state)
+changed-none root other Dead none = none
+changed-none root other (Live known) none =
+    let new : RowState = record (row_at known other) { growth = None } in
+    ⊎_elim (λ kept. ap (λ (s : RowState). s.growth) kept ∙ none)
+    (λ (both : (other ≡ root) × (row_at (with_row other new known) root ≡ new)). ap (λ (s : RowState). s.growth) both.1) (set-at known.rows other root new)
+
+own-none : (root : ℕ) (state : State) → NoGrowth root (with_change root None state)
+own-none root Dead = tt
+own-none root (Live known) =
+    let new : RowState = record (row_at known root) { growth = None } in
+    let count = length-set known.rows root new in
+    ⊎_elim (λ within. ap (λ (s : RowState). s.growth) (get_or-set_same known.rows root new no_row within))
+    (λ beyond. ap (λ (s : RowState). s.growth) (get_or_past (set known.rows root new) root no_row (omega (arith, count, beyond))))
+    (cases_lt root (length known.rows))
+
+all-none : (roots : List ℕ) (root : ℕ) (state : State) → NoGrowth root state → NoGrowth root (all_changed roots state)
+all-none [] root state none = none
+all-none (first ∷ roots) root state none = all-none roots root (with_change first None state) (changed-none root first state none)
+
+-- none of several variables does, after they changed
+left-none : (roots : List ℕ) (root : ℕ) (state : State) → is_among root roots ≡ true → NoGrowth root (all_changed roots state)
+left-none [] root state among = absurd (cc)
+left-none (first ∷ roots) root state among =
+    ⊎_elim
+    (λ same.
+    all-none roots root (with_change first None state)
+    (subst (λ (r : ℕ). NoGrowth root (with_change r None state)) (sym (eqb-true first root same)) (own-none root state)))
+    (λ later. left-none roots root (with_change first None state) later) (or_cases (nat_eq first root) (is_among root roots) among)
+
+-- ---- the range of a row
+
+-- a state has a row
+abbrev HasRow : ℕ → State → Type 0
+HasRow row Dead = ⊥
+HasRow row (Live known) = row < length known.rows
+
+abbrev InRow : ℕ → Value → State → Type 0
+InRow row v state = IsIn (range_of state row) v
 
 has-grows : (row : ℕ) → Grows (HasRow row)
 has-grows row other range Dead has = has
@@ -207,9 +256,10 @@ loose-of : (rows : List Parts) (env : Environment) (aliases : List ℕ) (state :
     → EachHeld (λ one. (rests_on_any aliases one ≡ false) × Unit {0}) state
     → ((row : ℕ) (steps : List Step) (v : Value) → is_among (slice_index_or rows row no_parts).root aliases ≡ true → IsOfRow rows row steps
     → component_at rows (moment env after) row steps ≡ Some v → InRow row v state)
-    → IsLooseIn rows env aliases state after
-loose-of rows env aliases Dead after each inside = tt
-loose-of rows env aliases (Live known) after each inside = record { held = λ one listed. (each one listed).0; ranges = inside }
+    → ((root : ℕ) → is_among root aliases ≡ true → NoGrowth root state) → IsLooseIn rows env aliases state after
+loose-of rows env aliases Dead after each inside none = tt
+loose-of rows env aliases (Live known) after each inside none =
+    record { held = λ one listed. (each one listed).0; growths = none; ranges = inside }
 
 has-row : (rows : List Parts) (m : Moment) (state : State) (row : ℕ) → row < length rows → StateHolds rows state m → HasRow row state
 has-row rows m Dead row within holds = holds
@@ -242,5 +292,6 @@ aliases-ready tree roots env aliases stored state before after aliased knows =
           all-join tree (HasRow row) (InRow row v) (has-grows row) (in-grows row v) found.0 alias
           (λ s has. row-joins tree found.0 row v found.2 found.3 (rows_under tree alias []) s found.4 has) stored aliases left found.1 among
           (has-row parts (moment env before) left row (of_row-within parts row steps of_row) left_holds))
-          (aliased.each row steps v among of_row is));
+          (aliased.each row steps v among of_row is))
+          (λ root among. all-grow tree (NoGrowth root) (none-grows root) stored aliases left (left-none aliases root state among));
     }

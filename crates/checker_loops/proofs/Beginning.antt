@@ -371,13 +371,13 @@ acted-start tree block number row (Some variable) = by (is_own block variable) (
     limits : Interval
     limits = limits_or_integer row.leaf.values
 
-    passed : (whole : Bool) → cond whole (type_state row) (defined (type_state row)) ≡ record { range = limits; is_defined = not whole }
+    passed : (whole : Bool) → cond whole (type_state row) (defined (type_state row)) ≡ record { range = limits; is_defined = not whole; growth = None }
     passed true = refl
     passed false = refl
 
     by : (own value : Bool) → is_own block variable ≡ own → is_passed_value block variable ≡ value
         → cond own (undefined (type_state row)) (cond value (cond (is_whole_row tree number) (type_state row) (defined (type_state row))) (type_state row))
-        ≡ record { range = cond own vacant limits; is_defined = value && not (is_whole_row tree number) }
+        ≡ record { range = cond own vacant limits; is_defined = value && not (is_whole_row tree number); growth = None }
     by true true own_is value_is =
         let one = and_parts (nat_eq variable.block block) (is_local_kind variable.kind || is_result_kind variable.kind) own_is in
         let other = and_parts (nat_eq variable.block block) (is_value_kind variable.kind) value_is in

@@ -16,3 +16,5 @@ pub mod Beginning
 pub mod AliasesHold
 pub mod AliasedStores
 pub mod VariableRows
+pub mod Turning
+pub mod GrowthsTurned

@@ -197,8 +197,8 @@ ended-known rows table are env way state before after x y n within changes has o
     let range = values_behind way.direction way.last.values (range_of state way.control) in
     let inside = behind-in way.direction way.last.values (range_of state way.control) x y n other between apart
     (root-here rows table are env known.shows before state way.control n known.holds has) in
-    let assigned = assignments-hold rows table are env [] state before after way.control range (next way) (value.Number m) within changes has_next known
-    (none-loose rows env state after) inside (next-of_form env before way.control way.direction n has) (λ bound is. refl) in
+    let assigned = assignments-hold rows table are env [] state before after way.control range (next way) None (value.Number m) within changes has_next known
+    (none-loose rows env state after) inside (next-of_form env before way.control way.direction n has) (λ bound is. refl) tt in
     let moved : Knows rows table.variables env (moved_on way range state) after = record {
       shows = known.shows;
       holds = nonempty-holds rows table are env known.shows after range _ m inside assigned.holds;

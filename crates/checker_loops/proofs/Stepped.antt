@@ -8,7 +8,7 @@ use Rattle.std.proofs.lemmas.List.Folds.{list_all-append, list_all-map, list_all
 use Rattle.std.proofs.lemmas.List.FromFn.{get_or-range_with_len, length-range_with_len}
 use Rattle.certificate.specs.declared.facts.Fact.{Fact as KeptFact}
 use Rattle.certificate.specs.Contents.{said_fact}
-use Rattle.domain.specs.Facts.{Fact, Range, Defined, Order, Span}
+use Rattle.domain.specs.Facts.{Fact, Range, Defined, Order, Grows, Span}
 use Rattle.domain.specs.Interval.{Interval}
 use Rattle.typed_tree.specs.declared.tree.Tree.{Tree}
 use Rattle.checker_rows.specs.Rows.{rows_touched, rows_under}
@@ -111,6 +111,7 @@ pub said-by-rows : (defined : List Span → ℕ → Claim) (tree : Tree) (fact :
 said-by-rows defined tree (Range path range) = refl
 said-by-rows defined tree (Defined path spans) = refl
 said-by-rows defined tree (Order root other number) = refl
+said-by-rows defined tree (Grows root growth) = refl
 
 pub claims-row : (tree : Tree) (fact : Fact) (rows : List ℕ) (row : ℕ) (claim : Claim) (state : State) → claim ≡ claim_at tree fact row
     → with_claim claim (with_claims (map (claim_at tree fact) rows) state) ≡ with_claims (map (claim_at tree fact) (rows ++ row ∷ [])) state

@@ -1,6 +1,7 @@
 pub mod Pairs
 pub mod Loops
 pub mod Ways
+pub mod Growths
 pub mod Cases
 pub mod Listed
 pub mod View

@@ -1,8 +1,9 @@
 -- What a certificate claims of a loop, and what the checker goes by where a turn of it begins (ISO 7185:1990, 6.8.3.6).
 -- It does not say that a loop keeps to that.
-use Rattle.std.specs.Prelude.{ℕ, List, [], ◌∷◌, ◌++◌, Option, Some, None, Bool, if◌then◌else◌}
+use Rattle.std.specs.Prelude.{ℕ, List, [], ◌∷◌, ◌++◌, Option, Some, None, Bool, false, if◌then◌else◌}
 use Rattle.std.specs.Prelude.{flat_map, map, nat_eq, length, slice_get, slice_index_or}
 use Rattle.std.specs.List.{list_all, range_with_len}
+use Rattle.std.specs.Option.{is_some}
 use Rattle.typed_tree.specs.declared.tree.Loop.{Loop}
 use Rattle.typed_tree.specs.declared.tree.Tree.{Tree}
 use Rattle.certificate.specs.declared.Certificate.{Certificate}
@@ -60,7 +61,9 @@ abbrev pub said_by : (List fact.Span → ℕ → Claim) → Tree → fact.Fact �
 said_by defined tree (fact.Range path range) = map (λ row. Range row range) (rows_named tree path)
 said_by defined tree (fact.Defined path spans) = map (defined spans) (rows_named tree path)
 said_by defined tree (fact.Order root other number) = Holds (Ordered root other number) ∷ []
+said_by defined tree (fact.Grows root growth) = []
 
+-- of a growth nothing: it goes by finished turns, and is no claim that each turn keeps (`Growths.antt`)
 abbrev pub said : Tree → fact.Fact → List Claim
 said tree fact = said_by (defined_of tree) tree fact
 
@@ -109,12 +112,13 @@ all_claims tree certificate = map (claims_on certificate) (range_with_len 0 (len
 abbrev pub claims_at : List Claims → ℕ → Claims
 claims_at claims number = slice_index_or claims number no_claims
 
--- a loop round a point: the variables that its claims list, the control variables of the for statements in it, and the
--- aliases of both that are visible in its block
+-- a loop round a point: the variables that its claims list, the control variables of the for statements in it, the
+-- aliases of both that are visible in its block, and whether it is a for statement (6.8.3.9)
 pub record Round : Type 0 where
   pub changes : List ℕ
   pub controls : List ℕ
   pub aliases : List ℕ
+  pub is_for : Bool
 
 -- the control variables of the for statements inside a loop, by its row in the table; none where it has no row
 abbrev pub controls_of : Option Loop → List ℕ
@@ -123,6 +127,14 @@ controls_of (Some row) = row.controls.items
 
 abbrev pub controls_inside : Tree → ℕ → List ℕ
 controls_inside tree number = controls_of (slice_get tree.loops.items number)
+
+-- a loop is a for statement, by its row; it is none where it has no row
+abbrev pub has_control : Option Loop → Bool
+has_control None = false
+has_control (Some row) = is_some row.control
+
+abbrev pub is_for_statement : Tree → ℕ → Bool
+is_for_statement tree number = has_control (slice_get tree.loops.items number)
 
 -- the aliases of variables that are visible in the block of a loop, by its row; none where it has no row
 abbrev pub aliases_there : Listed → List ℕ → Option Loop → List ℕ
@@ -138,6 +150,7 @@ round_of tree listed claims number =
       changes = changes;
       controls = controls;
       aliases = aliases_there listed (controls ++ changes) (slice_get tree.loops.items number);
+      is_for = is_for_statement tree number;
     }
 
 -- a loop at its head: a for statement has a control variable of its own

@@ -1,7 +1,8 @@
 -- What is known where an activation of a block begins (ISO 7185:1990, 6.2.3.2, 6.6.3.2): its own variables and its
 -- result are undefined, its value parameters are defined, each other variable has a value of its type or none; and what
 -- a certificate claims beside that. It does not say that calls keep to these claims.
-use Rattle.std.specs.Prelude.{ℕ, suc, ◌&&◌, ◌||◌, Bool, not, List, [], ◌∷◌, Option, if◌then◌else◌, length}
+use Rattle.std.specs.Prelude.{ℕ, suc, ◌&&◌, ◌||◌, Bool, not, List, [], ◌∷◌, Option, None, length}
+use Rattle.std.specs.Prelude.{if◌then◌else◌}
 use Rattle.std.specs.Prelude.{map, min, nat_eq, slice_get}
 use Rattle.std.specs.List.{range_with_len}
 use Rattle.domain.specs.Interval.{vacant}
@@ -31,6 +32,7 @@ abbrev pub row_start : Tree → ℕ → ℕ → Row → Option Variable → RowS
 row_start tree block number row variable = record {
   range = if of_one (is_own block) variable then vacant else limits_or_integer row.leaf.values;
   is_defined = of_one (is_passed_value block) variable && not (is_whole_row tree number);
+  growth = None;
 }
 
 -- those of the rows from a number on

@@ -10,14 +10,17 @@ use denote.Ref.{Bor}
 use Rattle.certificate.specs.declared.AliasPair.{AliasPair}
 use Rattle.certificate.specs.declared.LoopClaims.{LoopClaims as LoopLines}
 use Rattle.certificate.specs.Contents.{LoopClaims, loop_of, said_fact}
-use Rattle.domain.specs.Facts.{Fact, Range, Defined, Order, Span}
+use Rattle.domain.specs.Facts.{Fact, Range, Defined, Order, Grows, Span}
+use Rattle.checker_rows.specs.Limits.{integer}
 use Rattle.checker_state.specs.State as state
 use Rattle.checker_state.specs.State.{Claim, Holds, Ordered}
 use Rattle.typed_tree.specs.declared.tree.Tree.{Tree}
 use Rattle.checker_loops.specs.declared.loops.Claims.{Claims as KeptClaims}
 use Rattle.checker_loops.specs.declared.rounds.Round.{Round as KeptRound}
 use Rattle.checker_loops.specs.Loops.{Claims, Round, asked_of, claims_of, defined_of, or_else, round_of, rows_named}
-use Rattle.checker_loops.specs.Loops.{with_own}
+use Rattle.checker_loops.specs.Loops.{touched, with_own}
+use Rattle.checker_loops.specs.Growths.{Turns}
+use Rattle.checker_loops.specs.declared.growths.Turns.{Turns as KeptTurns}
 use Rattle.checker_loops.specs.Pairs.{Listed, aliases_of, declared_aliases, declares, partner}
 
 -- ---- claims
@@ -26,17 +29,19 @@ use Rattle.checker_loops.specs.Pairs.{Listed, aliases_of, declared_aliases, decl
 abbrev pub said_claims : KeptClaims → Claims
 said_claims claims = record { changes = claims.changes; facts = map said_fact claims.facts.now }
 
--- the rows of which a fact says something; an order, which speaks of none, is said once
+-- the rows of which a fact says something; an order, which speaks of none, is said once, and a growth not at all
 abbrev pub rows_said : Tree → Fact → List ℕ
 rows_said tree (Range path range) = rows_named tree path
 rows_said tree (Defined path spans) = rows_named tree path
 rows_said tree (Order root other number) = 0 ∷ []
+rows_said tree (Grows root growth) = []
 
--- what it says there, by what it is of a row to be defined
+-- what it says there, by what it is of a row to be defined; a growth that values are integers, which they are
 abbrev pub claim_by : (List Span → ℕ → Claim) → Fact → ℕ → Claim
 claim_by defined (Range path range) row = state.Range row range
 claim_by defined (Defined path spans) row = defined spans row
 claim_by defined (Order root other number) row = Holds (Ordered root other number)
+claim_by defined (Grows root growth) row = state.Range row integer
 
 abbrev pub claim_at : Tree → Fact → ℕ → Claim
 claim_at tree fact row = claim_by (defined_of tree) fact row
@@ -138,10 +143,15 @@ loop_of_round round = record {
   changes = round.changes.listed.now;
   controls = round.controls.now;
   aliases = round.aliases.now;
+  is_for = round.is_for;
 }
 
 abbrev pub head_round : KeptRound → Round
 head_round round = with_own round.own (loop_of_round round)
+
+-- the turns of a for statement
+abbrev pub said_turns : KeptTurns → Turns
+said_turns turns = record { depth = turns.depth; most = turns.most; touched = touched (head_round turns.round) }
 
 -- the control variable of a for statement
 abbrev pub own_controls : Option ℕ → List ℕ

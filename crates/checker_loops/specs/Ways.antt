@@ -147,7 +147,7 @@ values_behind DownTo last range = difference (at_least (last.first +ℤ pos 1) r
 -- the control variable has one of them
 abbrev pub moved_on : Way → Interval → State → State
 moved_on way range state =
-    unless_empty range (assigned way.control range (next way) state)
+    unless_empty range (assigned way.control range (next way) None state)
 
 -- where a turn ends and another follows: the control variable has its next value
 abbrev pub turn_ended : Way → State → State

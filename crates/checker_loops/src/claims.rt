@@ -16,6 +16,7 @@ use checker_rows::{Rows, Span};
 use checker_state::{Bound, Claim, Held, Order, Stretch};
 use checker_trail::{State, all_of_row};
 use domain::facts::{self, Path, Spans};
+use domain::interval::Interval;
 
 /// What a certificate claims is known from here on.
 pub fn claim_facts(state: &mut State, facts: &[Fact])
@@ -64,7 +65,7 @@ fn gives_fact(state: &State, fact: &Fact) -> bool
     true
 }
 
-/// The rows of which a fact says something; an order, which speaks of none, is said once.
+/// The rows of which a fact says something; an order, which speaks of none, is said once, and a growth not at all.
 fn rows_said(rows: &Rows, fact: &Fact) -> Span
     ensures { numbers result ≡ rows_said rows.now (said_fact fact.now) }
 {
@@ -72,10 +73,11 @@ fn rows_said(rows: &Rows, fact: &Fact) -> Span
         Fact::Range { path, .. } => rows_named(rows, path),
         Fact::Defined { path, .. } => rows_named(rows, path),
         Fact::Order { .. } => Span { first: 0, count: 1 },
+        Fact::Grows { .. } => Span::none(),
     }
 }
 
-/// What it says there.
+/// What it says there; a growth that values are integers, which they are.
 fn claim_at(rows: &Rows, fact: &Fact, row: usize) -> Claim
     ensures { kept.said_claim result ≡ claim_at rows.now (said_fact fact.now) row }
 {
@@ -91,6 +93,10 @@ fn claim_at(rows: &Rows, fact: &Fact, row: usize) -> Claim
             other: *other,
             number: *number,
         })),
+        Fact::Grows { .. } => Claim::Range {
+            row,
+            range: Interval::INTEGER,
+        },
     }
 }
 

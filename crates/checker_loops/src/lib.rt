@@ -2,6 +2,7 @@
 #![tactic(auto)]
 
 pub mod claims;
+pub mod growths;
 pub mod listed;
 pub mod loops;
 pub mod pairs;

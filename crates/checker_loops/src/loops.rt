@@ -1,6 +1,6 @@
 ghost use Rattle.std.specs.Prelude.{◌≡◌, ◌∷◌, [], IfOk, get_or, map};
 ghost use Rattle.certificate.specs.Contents.{loop_of, said_fact};
-ghost use Rattle.checker_loops.specs.Loops.{all_claims, claims_at, controls_inside, found_among};
+ghost use Rattle.checker_loops.specs.Loops.{all_claims, claims_at, controls_inside, found_among, is_for_statement};
 ghost use Rattle.checker_loops.specs.View.{AreFound, all_loop_aliases, claims_found};
 ghost use Rattle.checker_loops.specs.View.{loop_aliases, said_claims};
 
@@ -92,6 +92,16 @@ pub fn controls_inside(tree: &Tree, number: u32) -> &[u32]
     match tree.loops.get(number as usize) {
         None => &[],
         Some(row) => &row.controls,
+    }
+}
+
+/// Whether the loop of a number is a for statement.
+pub fn is_for_statement(tree: &Tree, number: u32) -> bool
+    ensures { result ≡ is_for_statement tree.now number }
+{
+    match tree.loops.get(number as usize) {
+        None => false,
+        Some(row) => row.control.is_some(),
     }
 }
 

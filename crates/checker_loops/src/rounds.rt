@@ -14,7 +14,7 @@ ghost use Rattle.checker_loops.specs.View.{said_claims};
 
 use crate::claims::{claim_facts, gives_facts};
 use crate::listed::Roots;
-use crate::loops::{Claims, aliases_at, changes_at, controls_inside, facts_at};
+use crate::loops::{Claims, aliases_at, changes_at, controls_inside, facts_at, is_for_statement};
 use certificate::Fact;
 use checker_rows::{Rows, Span};
 use checker_trail::State;
@@ -31,7 +31,9 @@ pub struct Round<'a> {
     pub controls: &'a [u32],
     /// The aliases of what it changes, and of these control variables, that are visible in its block.
     pub aliases: &'a [u32],
-    /// Its own control variable, if it is a for statement.
+    /// Whether it is a for statement.
+    pub is_for: bool,
+    /// Its own control variable, at the head of a for statement.
     pub own: Option<u32>,
 }
 
@@ -56,6 +58,7 @@ impl<'a> Round<'a> {
             facts: facts_at(claims, number as usize),
             controls: controls_inside(tree, number),
             aliases: aliases_at(aliases, number),
+            is_for: is_for_statement(tree, number),
             own,
         }
     }

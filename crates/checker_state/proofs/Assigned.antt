@@ -4,6 +4,7 @@ use Rattle.std.proofs.Common.{◌∷◌, get_or, Option, Some, None}
 use Rattle.std.specs.List.{filter_map}
 use Rattle.std.proofs.lemmas.Int.{ints}
 use Rattle.std.proofs.lemmas.Bool.{both_ways, cases_Bool, cond_both, eq-eqb, or_from}
+use Rattle.std.proofs.lemmas.List.{length-set}
 use Rattle.std.proofs.lemmas.Option.{none-some, same_Some}
 use Rattle.domain.specs.Interval.{Interval, vacant}
 use Rattle.types.specs.declared.form.Step.{Step}
@@ -13,17 +14,19 @@ use Rattle.meaning.specs.declared.store.Value.TheVariants.{Number}
 use Rattle.meaning.specs.Store.{Environment, Store}
 use Rattle.checker_rows.specs.Rows.{Parts, first_index, no_parts}
 use Rattle.checker_state.specs.Bounds.{Bound}
-use Rattle.checker_state.specs.State.{Dead, Facts, Live, Ordered, State, Table, row_at, with_row, with_value}
+use Rattle.checker_state.specs.declared.growing.Growing.{Growing}
+use Rattle.checker_state.specs.State.{Dead, Facts, Live, Ordered, State, Table, row_at, with_growth, with_row, with_value}
 use Rattle.checker_state.specs.Changes.{changed, ordered, with_change, with_equal, with_equal_to, with_some}
 use Rattle.checker_state.specs.Loops.{is_among, with_undefined}
-use Rattle.checker_state.specs.Holds.{FactsHold, HasNumber, IsBoundBy, IsIn, IsOfRow, Moment, StateHolds, moment}
+use Rattle.checker_state.specs.Holds.{FactsHold, GrowthHolds, HasNumber, IsBoundBy, IsIn, IsOfRow, Moment, StateHolds, moment}
 use Rattle.checker_state.specs.Holds.{value_at}
 use Rattle.checker_state.specs.Knows.{AreRows, IsFormApart, IsLoose, IsLooseIn, IsOfForm, Knows, OneChanges, bound_rests}
 use Rattle.checker_state.specs.Laws.{AssignmentsHold}
 use Rattle.checker_state.proofs.Changed.{IsNumberOf, KeepNumbers, changed-holds, changes-keep}
+use Rattle.checker_state.proofs.Grown.{step-holds}
 use Rattle.checker_state.proofs.Lists.{in-filter_map}
-use Rattle.checker_state.proofs.Rows.{Any_value, HoldsWhere, defined-where, forgotten-where, held-holds, of_own, own-lies, own-whole, range-where, root-own}
-use Rattle.checker_state.proofs.Rows.{where-all}
+use Rattle.checker_state.proofs.Rows.{Any_value, HoldsWhere, defined-where, forgotten-where, growth-set, growth-stays, held-holds, of_own, own-lies, own-whole}
+use Rattle.checker_state.proofs.Rows.{range-where, root-own, row-grown, where-all}
 
 -- an order that holds is known, if its number is one that facts have
 pub order-holds : (rows : List Parts) (m : Moment) (state : State) (a b : ℕ) (x y k : ℤ) → HasNumber m a x → HasNumber m b y → x ≤ℤ (y +ℤ k)
@@ -36,7 +39,11 @@ order-holds rows m (Live known) a b x y k at_a at_b less holds =
 -- nothing is loose where there is no alias
 pub none-loose : (rows : List Parts) (env : Environment) (state : State) (after : Store) → IsLooseIn rows env [] state after
 none-loose rows env Dead after = tt
-none-loose rows env (Live known) after = record { held = λ one listed. refl; ranges = λ row steps v among of_row is. absurd (cc) }
+none-loose rows env (Live known) after = record {
+  held = λ one listed. refl;
+  growths = λ root among. absurd (cc);
+  ranges = λ row steps v among of_row is. absurd (cc);
+}
 
 module _ (rows : List Parts) (table : Table) (are : AreRows rows table) (env : Environment) (aliases : List ℕ) (before after : Store) (root : ℕ)
     (within : root < table.variables) (changes : OneChanges env root aliases before after) where
@@ -65,13 +72,22 @@ module _ (rows : List Parts) (table : Table) (are : AreRows rows table) (env : E
   number-stays : (other : ℕ) (n : ℤ) → nat_eq root other ≡ false → is_among other aliases ≡ false → HasNumber Before other n → HasNumber After other n
   number-stays other n differ free has = keep other n (or_from (nat_eq root other) (is_among other aliases) differ free) has
 
+  -- another variable grows as it did
+  growth-kept : (known : Facts) → IsLoose rows env aliases known after → FactsHold rows known Before → (other : ℕ) → (other ≡ root → ⊥)
+      → GrowthHolds other (row_at known other).growth After
+  growth-kept known loose holds other differ =
+      ⊎_elim (λ alias. subst (λ (growth : Option Growing). GrowthHolds other growth After) (sym (loose.growths other alias)) tt)
+      (λ free.
+      growth-stays env before after other (row_at known other).growth (λ n has. sym (changes.others other [] (λ same whole. differ same) free) ∙ has)
+      (holds.growths other)) (cases_Bool (is_among other aliases))
+
   -- what is left before the variable's own row is set
   others-hold : (form : Option Bound) → IsNumberOf root form Before After → (known : Facts) → IsLoose rows env aliases known after
       → FactsHold rows known Before
-      → HoldsWhere rows After Others (root ∷ []) (record known { held = filter_map (changed root form) known.held })
+      → HoldsWhere rows After Others (root ∷ []) (record (with_growth root None known) { held = filter_map (changed root form) known.held })
   others-hold form number known loose holds = record {
-    count = holds.count;
-    each = λ row. record {
+    count = (let same = length-set known.rows root (record (row_at known root) { growth = None }) in omega (arith, same, holds.count));
+    each = λ row. row-grown rows After Others (root ∷ []) known root None row (record {
       range = λ steps v of_row there differ.
           ⊎_elim (λ alias. loose.ranges row steps v alias of_row there)
           (λ free.
@@ -83,7 +99,9 @@ module _ (rows : List Parts) (table : Table) (are : AreRows rows table) (env : E
           let own = own-row row steps of_row same whole in
           both_ways (nat_eq root row || false) kept (subst (λ (r : ℕ). (nat_eq root r || false) ≡ true) (sym own) (root-among root)))
           (holds.defined row is steps of_row);
-    };
+    });
+    growths = λ other.
+        growth-set After known root other (record (row_at known root) { growth = None }) (λ same. tt) (λ differ. growth-kept known loose holds other differ);
     held = λ one inside.
         let (old, listed, became) = in-filter_map (changed root form) known.held one inside in
         changed-holds Before After root aliases keep rows
@@ -102,7 +120,7 @@ module _ (rows : List Parts) (table : Table) (are : AreRows rows table) (env : E
         → IsLooseIn rows env aliases state after → StateHolds rows state Before → StateHolds rows (with_value root range (with_change root form state)) After
     value-holds form number Dead range inside loose holds = holds
     value-holds form number (Live known) range inside loose holds =
-        let left : Facts = record known { held = filter_map (changed root form) known.held } in
+        let left : Facts = record (with_growth root None known) { held = filter_map (changed root form) known.held } in
         let ranged : Facts = with_row root (record (row_at left root) { range = range }) left in
         let lies = own-lies rows table are After root within range (λ w is. subst (λ u. IsIn range u) (same_Some v w (sym own ∙ is)) inside) in
         where-all rows After (Any_value rows After) (λ row steps v. tt) (with_row root (record (row_at ranged root) { is_defined = true }) ranged)
@@ -139,7 +157,7 @@ module _ (rows : List Parts) (table : Table) (are : AreRows rows table) (env : E
       → StateHolds rows state Before → StateHolds rows (with_undefined root state) After
   undefined-holds Dead none loose holds = holds
   undefined-holds (Live known) none loose holds =
-      let left : Facts = record known { held = filter_map (changed root None) known.held } in
+      let left : Facts = record (with_growth root None known) { held = filter_map (changed root None) known.held } in
       let ranged : Facts = with_row root (record (row_at left root) { range = vacant }) left in
       let lies = own-lies rows table are After root within vacant (λ v is. absurd (none v is)) in
       where-all rows After (Any_value rows After) (λ row steps v. tt) (with_row root (record (row_at ranged root) { is_defined = false }) ranged)
@@ -148,11 +166,13 @@ module _ (rows : List Parts) (table : Table) (are : AreRows rows table) (env : E
       (λ other steps w differ any. differ) (others-hold None tt known loose holds)))
 
 pub assignments-hold : AssignmentsHold
-assignments-hold rows table are env aliases state before after root range form v within changes own known loose inside of_form apart = record {
+assignments-hold rows table are env aliases state before after root range form step v within changes own known loose inside of_form apart is_step = record {
   shows = known.shows;
-  holds = equal-holds rows table are env aliases before after root within changes v own form of_form apart (with_value root range (with_change root form state))
+  holds = step-holds rows table are env known.shows before after root within v own step is_step state known.holds
+      (with_equal root form (with_value root range (with_change root form state)))
+      (equal-holds rows table are env aliases before after root within changes v own form of_form apart (with_value root range (with_change root form state))
       (value-holds rows table are env aliases before after root within changes v own form
-      (number-of_form rows table are env aliases before after root within changes v own form of_form) state range inside loose known.holds);
+      (number-of_form rows table are env aliases before after root within changes v own form of_form) state range inside loose known.holds));
 }
 
 pub undefined-known : (rows : List Parts) (table : Table) → AreRows rows table

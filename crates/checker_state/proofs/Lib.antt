@@ -1,6 +1,7 @@
 pub mod Lists
 pub mod Ranged
 pub mod Rows
+pub mod Grown
 pub mod Bounds
 pub mod Given
 pub mod Joined

@@ -1,8 +1,9 @@
 -- What is known at the head of a loop, and behind it with a bound in its control variable's place, holds.
-use Rattle.std.proofs.Common.{◌≡◌, ⊎_elim, ◌∙◌, sym, ap, refl, subst, ℕ, ℤ, ◌<◌, ◌≤◌, true, false, nat_eq, ◌||◌, List, [], ◌∷◌, get_or, length}
+use Rattle.std.proofs.Common.{arith, ◌≡◌, ⊎_elim, ◌∙◌, sym, ap, refl, subst, ℕ, ℤ, ◌<◌, ◌≤◌, true, false, nat_eq, ◌||◌, List, [], ◌∷◌, get_or, length}
 use Rattle.std.proofs.Common.{Option, Some, None}
 use Rattle.std.specs.List.{All, Contains, filter_map, list_any}
-use Rattle.std.proofs.lemmas.Bool.{cases_lt, and_parts, or_from}
+use Rattle.std.proofs.lemmas.Bool.{cases_lt, and_parts, ne_eqb, or_from}
+use Rattle.std.proofs.lemmas.List.{length-set}
 use Rattle.std.proofs.lemmas.List.Elements.{All-cons, All-head, All-nil, All-tail}
 use Rattle.std.proofs.lemmas.Option.{none-some, same_Some}
 use Rattle.domain.specs.Interval.{Interval, common}
@@ -13,18 +14,19 @@ use Rattle.checker_rows.specs.Rows.{Parts, first_index, no_parts}
 use Rattle.checker_state.specs.Bounds.{Bound}
 use Rattle.checker_state.specs.State.{Claim, Dead, Defined, Facts, Held, Holds as Holding, Live, Ordered, Range, Span, State, Stretched, Table, range_of}
 use Rattle.checker_state.specs.State.{row_at}
-use Rattle.checker_state.specs.State.{state_gives, with_range}
+use Rattle.checker_state.specs.State.{state_gives, with_growth, with_range}
 use Rattle.checker_state.specs.Changes.{all_changed, all_with_bounds, bound_rests_on, changed, changed_bound, in_place, rests_on, span_rests_on}
 use Rattle.checker_state.specs.Changes.{with_bounds}
 use Rattle.checker_state.specs.Loops.{after_turns, all_forgotten, gives_all, is_among, replaced, with_claim, with_claims, with_forgotten, with_limits}
-use Rattle.checker_state.specs.Holds.{HasNumber, HeldHolds, HoldNumbers, Holds, IsBound, IsOfRow, Moment, StateHolds, ValuesLie, moment}
+use Rattle.checker_state.specs.Holds.{GrowthHolds, HasNumber, HeldHolds, HoldNumbers, Holds, IsBound, IsOfRow, Moment, StateHolds, ValuesLie, moment}
 use Rattle.checker_state.specs.Knows.{AreEntire, AreRows, AreUntouched, InLimits, IsKept, Knows, rests_on_any}
 use Rattle.checker_state.specs.Laws.{HeadsHold}
 use Rattle.checker_state.proofs.Changed.{StaysDefined, between-some, both-some, held-stays, placed-holds, stretch-some, unless-some}
 use Rattle.checker_state.proofs.Given.{given-holds}
 use Rattle.checker_state.proofs.Lists.{head-or_tail, in-filter_map, in-none, in-tail, at-head, with_more-each}
 use Rattle.checker_state.proofs.Ranged.{common-in}
-use Rattle.checker_state.proofs.Rows.{HoldsWhere, RowWhere, defined-holds, forgotten-where, held-holds, range-holds, range-where, root-own, where-all}
+use Rattle.checker_state.proofs.Rows.{HoldsWhere, RowWhere, defined-holds, forgotten-where, growth-set, growth-stays, held-holds, range-holds, range-where}
+use Rattle.checker_state.proofs.Rows.{root-own, row-grown, where-all}
 
 -- ---- what rests on no variable that changed
 
@@ -59,11 +61,18 @@ module _ (rows : List Parts) (m : Moment) where
 
   pub changed-where : (Claimed : ℕ → List Step → Value → Type 0) (lost roots : List ℕ) (known : Facts) → length rows ≤ length known.rows
       → ((row : ℕ) → RowWhere rows m Claimed lost row (row_at known row))
+      → ((root : ℕ) → is_among root roots ≡ false → GrowthHolds root (row_at known root).growth m)
       → ((one : Held) → Contains known.held one → rests_on_any roots one ≡ false → HeldHolds rows one m)
       → StateWhere Claimed lost (all_changed roots (Live known))
-  changed-where Claimed lost [] known count each held = record { count = count; each = each; held = λ one listed. held one listed refl }
-  changed-where Claimed lost (root ∷ roots) known count each held =
-      changed-where Claimed lost roots (record known { held = filter_map (changed root None) known.held }) count each
+  changed-where Claimed lost [] known count each grows held =
+      record { count = count; each = each; growths = λ root. grows root refl; held = λ one listed. held one listed refl }
+  changed-where Claimed lost (root ∷ roots) known count each grows held =
+      let same = length-set known.rows root (record (row_at known root) { growth = None }) in
+      changed-where Claimed lost roots (record (with_growth root None known) { held = filter_map (changed root None) known.held })
+      (omega (arith, same, count)) (λ row. row-grown rows m Claimed lost known root None row (each row))
+      (λ other free.
+      growth-set m known root other (record (row_at known root) { growth = None }) (λ same. tt)
+      (λ differ. grows other (or_from (nat_eq root other) (is_among other roots) (ne_eqb root other (λ same. differ (sym same))) free)))
       (λ one listed free.
       let (old, old_listed, became) = in-filter_map (changed root None) known.held one listed in
       let parts = unchanged root old one became in
@@ -165,6 +174,7 @@ module _ (rows : List Parts) (table : Table) (are : AreRows rows table) (env : E
         defined = λ free is steps of_row.
             kept.defined (get_or rows row no_parts).root (free-root row steps of_row free) steps (holds.defined row is steps of_row);
       })
+      (λ root free. growth-stays env before after root (row_at known root).growth (λ n has. sym (kept.values root free []) ∙ has) (holds.growths root))
       (λ one listed free.
       held-stays (moment env before) After roots (λ root n apart has. kept.values root apart [] ∙ has) rows stays one free (holds.held one listed)))))
 
@@ -195,6 +205,7 @@ replaced-holds rows m (Live known) root (Some own) x has at holds = record {
   count = holds.count;
   ranges = holds.ranges;
   defined = holds.defined;
+  growths = holds.growths;
   held = with_more-each (λ one. HeldHolds rows one m) (filter_map (in_place root own) known.held) []
       (λ one inside.
       let (old, listed, became) = in-filter_map (in_place root own) known.held one inside in

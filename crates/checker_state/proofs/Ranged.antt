@@ -8,10 +8,11 @@ use Rattle.members.specs.Members as sets
 use Rattle.members.proofs.Memberships.{can_be, range_stays, within_has}
 use Rattle.domain.specs.Hull.{HasSet}
 use Rattle.domain.specs.Hulls.{common-has_set, common-has_set_right, included-has_set, joined-has_set_left, joined-has_set_right}
+use Rattle.domain.specs.Ranges.{common-has_left, common-has_right}
 use Rattle.types.specs.declared.form.OrdinalRange.{OrdinalRange}
 use Rattle.domain.specs.Interval as domain
 use Rattle.domain.specs.Interval.{Interval, HasMember, has_number, is_vacant, common, truth_values}
-use Rattle.domain.specs.contracts.interval.IntervalDomain.TheImpl.Laws.{leq_includes-law, meet_has_common-law, meet_has_left-law, meet_has_right-law}
+use Rattle.domain.specs.contracts.interval.IntervalDomain.TheImpl.Laws.{leq_includes-law, meet_has_common-law}
 use Rattle.domain.specs.contracts.interval.IntervalDomain.TheImpl.Laws.{has_present-law, join_has_left-law, join_has_right-law}
 use Rattle.meaning.specs.declared.store.Value.{Value}
 use Rattle.meaning.specs.declared.store.Value.TheVariants.{Members, Number}
@@ -96,8 +97,8 @@ pub limits-is_in : (range : OrdinalRange) (v : Value) → IsIn (limits_of range)
 limits-is_in range (Number n) inside =
     let own : Interval = record { first = range.first; last = range.last } in
     and_from (is_integer_number n) (is_within range.first range.last n)
-    (has-is_within integer.first integer.last n (meet_has_left-law integer own n inside))
-    (has-is_within range.first range.last n (meet_has_right-law integer own n inside))
+    (has-is_within integer.first integer.last n (common-has_left integer own n inside))
+    (has-is_within range.first range.last n (common-has_right integer own n inside))
 limits-is_in range (Members set) (fits, each) =
     has-within set range.first range.last fits (common-has_set_right integer (record { first = range.first; last = range.last }) set each)
 

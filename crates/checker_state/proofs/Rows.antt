@@ -1,7 +1,8 @@
 -- What is known of rows after one of them was set: there what was set, and elsewhere what was known. And the rows that
 -- are variables' own.
-use Rattle.std.proofs.Common.{arith, ◌≡◌, ⊎_elim, ◌∙◌, sym, ap, refl, subst, ℕ, ◌<◌, ◌≤◌, true, false, nat_eq, List, [], ◌∷◌, get_or, length}
-use Rattle.std.proofs.Common.{Option, Some}
+use Rattle.std.proofs.Common.{arith, ◌≡◌, ⊎_elim, ◌∙◌, sym, ap, refl, subst, ℕ, ◌<◌, ◌≤◌, ℤ, true, false, nat_eq, List, [], ◌∷◌, get_or, length}
+use Rattle.std.proofs.Common.{Option, Some, None}
+use Rattle.std.specs.Prelude.{slice_set}
 use Rattle.std.specs.List.{Contains}
 use Rattle.std.proofs.lemmas.Bool.{cases_eq, cases_lt, ne_eqb, or_from, or_parts}
 use Rattle.std.proofs.lemmas.List.{get_or_past, get_or-set_other, get_or-set_same, length-set}
@@ -11,11 +12,12 @@ use Rattle.domain.specs.Interval.{Interval}
 use Rattle.meaning.specs.declared.store.Value.{Value}
 use Rattle.meaning.specs.Store.{Environment, Place, Store}
 use Rattle.checker_rows.specs.Rows.{Parts, no_parts}
-use Rattle.checker_state.specs.State.{Dead, Facts, Held, Live, RowState, State, Table, no_row, row_at, with_defined, with_range, with_row}
+use Rattle.checker_state.specs.declared.growing.Growing.{Growing}
+use Rattle.checker_state.specs.State.{Dead, Facts, Held, Live, RowState, State, Table, no_row, row_at, with_defined, with_growth, with_range, with_row}
 use Rattle.checker_state.specs.Changes.{with_some}
 use Rattle.checker_state.specs.Loops.{is_among}
-use Rattle.checker_state.specs.Holds.{FactsHold, HasValue, HeldHolds, IsIn, IsOfRow, IsWhole, Moment, StateHolds, ValuesLie, component_at, moment, part_of}
-use Rattle.checker_state.specs.Holds.{value_at}
+use Rattle.checker_state.specs.Holds.{FactsHold, GrowthHolds, HasNumber, HasValue, HeldHolds, IsIn, IsOfRow, IsWhole, Moment, StateHolds}
+use Rattle.checker_state.specs.Holds.{ValuesLie, component_at, moment, part_of, value_at}
 use Rattle.checker_state.specs.Knows.{AreRows, Shows}
 use Rattle.checker_state.proofs.Lists.{at-head, head-or_tail, in-none, with_one-each}
 
@@ -38,6 +40,29 @@ set-where P known row other state there elsewhere within =
     (there same))
     (λ differ. subst P (sym (get_or-set_other known.rows row other state no_row differ)) (elsewhere differ)) (cases_eq other row)
 
+-- a row that isn't there stays so
+set-past : (known : Facts) (row other : ℕ) (state : RowState) → length known.rows ≤ other → no_row ≡ row_at (with_row row state known) other
+set-past known row other state beyond =
+    let same = length-set known.rows row state in
+    sym (get_or_past (slice_set known.rows row state) other no_row (omega (arith, same, beyond)))
+
+-- ---- how variables grow
+
+-- a variable that has no number but those that it had grows as it did
+pub growth-stays : (env : Environment) (before after : Store) (root : ℕ) (growth : Option Growing)
+    → ((n : ℤ) → HasNumber (moment env after) root n → HasNumber (moment env before) root n)
+    → GrowthHolds root growth (moment env before) → GrowthHolds root growth (moment env after)
+growth-stays env before after root None back grows = tt
+growth-stays env before after root (Some growing) back (k, at, below, so) = (k, at, below, λ n has. so n (back n has))
+
+-- after a row was set the variable of its number grows as was set, and each other as it did
+pub growth-set : (m : Moment) (known : Facts) (row other : ℕ) (state : RowState) → (other ≡ row → GrowthHolds other state.growth m)
+    → ((other ≡ row → ⊥) → GrowthHolds other (row_at known other).growth m) → GrowthHolds other (row_at (with_row row state known) other).growth m
+growth-set m known row other state there elsewhere =
+    let P : RowState → Type 0 = λ state. GrowthHolds other state.growth m in
+    ⊎_elim (λ within. set-where P known row other state there elsewhere within)
+    (λ beyond. subst P (set-past known row other state beyond) tt) (cases_lt other (length known.rows))
+
 module _ (rows : List Parts) (m : Moment) where
   -- what is known of a row holds of the values that are claimed of it; that it is defined, unless that is lost
   pub record RowWhere (Claimed : ℕ → List Step → Value → Type 0) (lost : List ℕ) (row : ℕ) (state : RowState) : Type 0 where
@@ -45,18 +70,21 @@ module _ (rows : List Parts) (m : Moment) where
         → IsIn state.range v
     pub defined : is_among row lost ≡ false → state.is_defined ≡ true → IsWhole rows row m
 
-  -- so it is of each row, and what is held holds
+  -- so it is of each row, variables grow so, and what is held holds
   pub record HoldsWhere (Claimed : ℕ → List Step → Value → Type 0) (lost : List ℕ) (known : Facts) : Type 0 where
     pub count : length rows ≤ length known.rows
     pub each : (row : ℕ) → RowWhere Claimed lost row (row_at known row)
+    pub growths : (root : ℕ) → GrowthHolds root (row_at known root).growth m
     pub held : (one : Held) → Contains known.held one → HeldHolds rows one m
 
   pub row-where : (Claimed Then : ℕ → List Step → Value → Type 0) (lost left : List ℕ) (known : Facts) (row : ℕ) (state : RowState)
-      → RowWhere Then left row state
+      → RowWhere Then left row state → GrowthHolds row state.growth m
       → ((other : ℕ) (state : RowState) → (other ≡ row → ⊥) → RowWhere Claimed lost other state → RowWhere Then left other state)
       → HoldsWhere Claimed lost known → HoldsWhere Then left (with_row row state known)
-  row-where Claimed Then lost left known row state so others holds = record {
+  row-where Claimed Then lost left known row state so grows others holds = record {
     count = omega (arith, length-set known.rows row state, holds.count);
+    growths = λ other.
+        growth-set m known row other state (λ same. subst (λ (r : ℕ). GrowthHolds r state.growth m) (sym same) grows) (λ differ. holds.growths other);
     each = λ other.
         let all = λ (steps : List Step) (of_row : IsOfRow rows other steps).
         set-where (RowWhere Then left other) known row other state (λ same. subst (λ r. RowWhere Then left r state) (sym same) so)
@@ -82,7 +110,7 @@ module _ (rows : List Parts) (m : Moment) where
       → HoldsWhere Claimed lost known → HoldsWhere Then lost (with_row row (record (row_at known row) { range = range }) known)
   range-where Claimed Then lost known row range so others holds =
       row-where Claimed Then lost lost known row (record (row_at known row) { range = range }) (record { range = so; defined = (holds.each row).defined })
-      (λ other state differ was. record {
+      (holds.growths row) (λ other state differ was. record {
         range = λ steps v of_row there claimed. was.range steps v of_row there (others other steps v differ claimed);
         defined = was.defined;
       }) holds
@@ -92,14 +120,40 @@ module _ (rows : List Parts) (m : Moment) where
       → HoldsWhere Claimed (row ∷ lost) known → HoldsWhere Claimed lost (with_row row (record (row_at known row) { is_defined = true }) known)
   defined-where Claimed lost known row so holds =
       row-where Claimed Claimed (row ∷ lost) lost known row (record (row_at known row) { is_defined = true })
-      (record { range = (holds.each row).range; defined = λ kept is. so }) (still-lost Claimed lost row) holds
+      (record { range = (holds.each row).range; defined = λ kept is. so }) (holds.growths row) (still-lost Claimed lost row) holds
 
   -- that a row is defined is lost, and no more claimed
   pub forgotten-where : (Claimed : ℕ → List Step → Value → Type 0) (lost : List ℕ) (known : Facts) (row : ℕ)
       → HoldsWhere Claimed (row ∷ lost) known → HoldsWhere Claimed lost (with_row row (record (row_at known row) { is_defined = false }) known)
   forgotten-where Claimed lost known row holds =
       row-where Claimed Claimed (row ∷ lost) lost known row (record (row_at known row) { is_defined = false })
-      (record { range = (holds.each row).range; defined = λ kept is. absurd (cc) }) (still-lost Claimed lost row) holds
+      (record { range = (holds.each row).range; defined = λ kept is. absurd (cc) }) (holds.growths row) (still-lost Claimed lost row) holds
+
+  -- what is known of a row holds, however its variable grows
+  pub row-grown : (Claimed : ℕ → List Step → Value → Type 0) (lost : List ℕ) (known : Facts) (root : ℕ) (growth : Option Growing) (row : ℕ)
+      → RowWhere Claimed lost row (row_at known row) → RowWhere Claimed lost row (row_at (with_growth root growth known) row)
+  row-grown Claimed lost known root growth row was =
+      let P = RowWhere Claimed lost row in
+      let grown : RowState = record (row_at known root) { growth = growth } in
+      ⊎_elim
+      (λ within.
+      set-where P known root row grown
+      (λ same. subst (λ (r : ℕ). P (record (row_at known r) { growth = growth })) same (record { range = was.range; defined = was.defined })) (λ differ. was)
+      within)
+      (λ beyond. subst P (get_or_past known.rows row no_row beyond ∙ set-past known root row grown beyond) was)
+      (cases_lt row (length known.rows))
+
+  -- a variable grows otherwise, or isn't known to
+  pub growth-where : (Claimed : ℕ → List Step → Value → Type 0) (lost : List ℕ) (known : Facts) (root : ℕ) (growth : Option Growing)
+      → GrowthHolds root growth m → HoldsWhere Claimed lost known → HoldsWhere Claimed lost (with_growth root growth known)
+  growth-where Claimed lost known root growth grows holds = record {
+    count = omega (arith, length-set known.rows root (record (row_at known root) { growth = growth }), holds.count);
+    each = λ row. row-grown Claimed lost known root growth row (holds.each row);
+    growths = λ other.
+        growth-set m known root other (record (row_at known root) { growth = growth })
+        (λ same. subst (λ (r : ℕ). GrowthHolds r growth m) (sym same) grows) (λ differ. holds.growths other);
+    held = holds.held;
+  }
 
   -- more is lost
   pub lost-where : (Claimed : ℕ → List Step → Value → Type 0) (lost : List ℕ) (known : Facts) (row : ℕ) → HoldsWhere Claimed lost known
@@ -110,6 +164,7 @@ module _ (rows : List Parts) (m : Moment) where
       range = (holds.each other).range;
       defined = λ kept is. (holds.each other).defined (or_parts (nat_eq row other) (is_among other lost) kept).1 is;
     };
+    growths = holds.growths;
     held = holds.held;
   }
 
@@ -124,6 +179,7 @@ module _ (rows : List Parts) (m : Moment) where
     count = holds.count;
     ranges = λ row steps v of_row there. (holds.each row).range steps v of_row there (so row steps v);
     defined = λ row is. (holds.each row).defined refl is;
+    growths = holds.growths;
     held = holds.held;
   }
 
@@ -131,6 +187,7 @@ module _ (rows : List Parts) (m : Moment) where
   all-where known holds = record {
     count = holds.count;
     each = λ row. record { range = λ steps v of_row there any. holds.ranges row steps v of_row there; defined = λ kept is. holds.defined row is };
+    growths = holds.growths;
     held = holds.held;
   }
 
@@ -155,6 +212,7 @@ module _ (rows : List Parts) (m : Moment) where
     count = holds.count;
     ranges = holds.ranges;
     defined = holds.defined;
+    growths = holds.growths;
     held = with_one-each (λ one. HeldHolds rows one m) one known.held so holds.held;
   }
 

@@ -12,13 +12,14 @@ use Rattle.meaning.specs.declared.store.Value.TheVariants.{Number}
 use Rattle.meaning.specs.Store.{Environment, Store}
 use Rattle.checker_rows.specs.Rows.{Parts, first_index, indexes_of, no_parts}
 use Rattle.checker_state.specs.Bounds.{Bound}
+use Rattle.checker_state.specs.declared.growing.Growing.{Growing}
 use Rattle.checker_state.specs.State.{Dead, Facts, Held, Live, Ordered, Span, State, Stretch, Stretched, Table, is_next, le, range_of, row_at, with_defined}
 use Rattle.checker_state.specs.State.{with_range}
 use Rattle.checker_state.specs.State.{with_row}
 use Rattle.checker_state.specs.Loops.{is_among}
 use Rattle.checker_state.specs.Stores.{Index, Reach, all_stored, at_indexes, is_at, is_none, longer, longer_by, longer_of, longer_span, or_alone, point}
 use Rattle.checker_state.specs.Stores.{stored, stored_at, with_both, with_joined, with_some_element}
-use Rattle.checker_state.specs.Holds.{AreBounds, FactsHold, HasComponent, HeldHolds, IsBound, IsIn, IsOfRow, LieBetween, Moment, Numbers}
+use Rattle.checker_state.specs.Holds.{AreBounds, FactsHold, GrowthHolds, HasComponent, HeldHolds, IsBound, IsIn, IsOfRow, LieBetween, Moment, Numbers}
 use Rattle.checker_state.specs.Holds.{StateHolds, StretchHolds, component_at, moment, value_at}
 use Rattle.checker_state.specs.Knows.{AreIndexes, AreRows, AreStored, BeginWith, IsIndex, IsLoose, IsLooseIn, IsReach, IsReachApart, Knows}
 use Rattle.checker_state.specs.Knows.{Shows}
@@ -27,7 +28,7 @@ use Rattle.checker_state.proofs.Bounds.{IsTold, le-is, next-is}
 use Rattle.checker_state.proofs.Changed.{KeepNumbers, bound-stays, held-stays, when-some}
 use Rattle.checker_state.proofs.Lists.{Each, any-in, at-head, head-or_tail, in-filter, in-filter_map, in-none, in-tail, none-in, with_more-each}
 use Rattle.checker_state.proofs.Ranged.{in-left, in-right}
-use Rattle.checker_state.proofs.Rows.{HoldsWhere, defined-where, lost-where, of_own, range-where, root-own, shown, where-all}
+use Rattle.checker_state.proofs.Rows.{HoldsWhere, defined-where, growth-stays, lost-where, of_own, range-where, root-own, shown, where-all}
 
 -- a row is among those of some stores
 abbrev Pending : List (ℕ × Interval) → ℕ → Type 0
@@ -142,9 +143,12 @@ module _ (rows : List Parts) (table : Table) (are : AreRows rows table) (env : E
 
   -- ---- where the first store begins
 
+  -- a whole variable has the value that it had
+  whole-stays : (root : ℕ) → is_among root aliases ≡ false → value_at After root [] ≡ value_at Before root []
+  whole-stays root free = are_stored.others root [] free (λ one listed of_row same. are.inner (one.0) (inner one listed) of_row)
+
   keep : KeepNumbers aliases Before After
-  keep root n free has =
-      are_stored.others root [] free (λ one listed of_row same. are.inner (one.0) (inner one listed) of_row) ∙ has
+  keep root n free has = whole-stays root free ∙ has
 
   -- a row that no store has is as it was
   unstored : (row : ℕ) (steps : List Step) → IsOfRow rows row steps → is_among (root_at row) aliases ≡ false
@@ -170,6 +174,11 @@ module _ (rows : List Parts) (table : Table) (are : AreRows rows table) (env : E
           (cases_Bool (list_any test stores));
       defined = λ kept is steps of_row. are_stored.defined (root_at row) steps (holds.defined row is steps of_row);
     };
+    growths = λ root.
+        let growth = (row_at known root).growth in
+        ⊎_elim (λ alias. subst (λ (g : Option Growing). GrowthHolds root g After) (sym (loose.growths root alias)) tt)
+        (λ free. growth-stays env before after root growth (λ n has. sym (whole-stays root free) ∙ has) (holds.growths root))
+        (cases_Bool (is_among root aliases));
     held = λ one listed.
         held-stays Before After aliases keep rows (λ row steps index of_row first has. are_stored.defined (root_at row) steps has) one (loose.held one listed)
         (holds.held one listed);
@@ -362,6 +371,7 @@ module _ (rows : List Parts) (table : Table) (are : AreRows rows table) (env : E
       element-holds = record {
         count = holds.count;
         each = holds.each;
+        growths = holds.growths;
         held = with_more-each HoldsAfter (or_alone row bounds (filter_map (longer known row bounds) known.held))
             (filter (λ held. is_none (longer known row bounds held)) known.held)
             (or_alone-each HoldsAfter row bounds (filter_map (longer known row bounds) known.held) alone-holds

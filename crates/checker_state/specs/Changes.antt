@@ -5,7 +5,9 @@ use Rattle.std.specs.List.{filter_map, list_any}
 use Rattle.domain.specs.Interval.{Interval}
 use Rattle.meaning.specs.Integers.{is_integer_number}
 use Rattle.checker_state.specs.Bounds.{Bound, is_variable, moved_bound}
-use Rattle.checker_state.specs.State.{Dead, Held, Live, Ordered, Span, State, Stretched, with_one, with_value}
+use Rattle.checker_state.specs.Growths.{behind_step, growth_of, stepped_growth}
+use Rattle.checker_state.specs.State.{Dead, Held, Live, Ordered, Span, State, Stretched}
+use Rattle.checker_state.specs.State.{with_growth, with_one, with_value}
 
 -- ---- what is held, and the values that it rests on
 
@@ -85,10 +87,11 @@ changed root form (Stretched stretch) =
     stretch_of stretch.row (all_with_bounds (changed_bound root form) stretch.spans)
 changed root form (Ordered a b number) = changed_order root form a b number
 
--- a variable got a value, perhaps of a bound form
+-- a variable got a value, perhaps of a bound form: it isn't known to grow any longer
 abbrev pub with_change : ℕ → Option Bound → State → State
 with_change root form Dead = Dead
-with_change root form (Live known) = Live (record known { held = filter_map (changed root form) known.held })
+with_change root form (Live known) =
+    Live (record (with_growth root None known) { held = filter_map (changed root form) known.held })
 
 -- several variables may have other values
 abbrev pub all_changed : List ℕ → State → State
@@ -112,9 +115,12 @@ abbrev pub with_equal : ℕ → Option Bound → State → State
 with_equal root None state = state
 with_equal root (Some form) state = with_equal_to root form.root form.number state
 
--- a variable has a value of a range from here on, perhaps of a bound form
-abbrev pub assigned : ℕ → Interval → Option Bound → State → State
-assigned root range form state = with_equal root form (with_value root range (with_change root form state))
+-- a variable has a value of a range from here on, perhaps of a bound form, and perhaps the one that it had plus a
+-- number of a step: then it goes on growing
+abbrev pub assigned : ℕ → Interval → Option Bound → (step : Option Interval) → State → State
+assigned root range form step state =
+    behind_step root (stepped_growth step (growth_of state root))
+    (with_equal root form (with_value root range (with_change root form state)))
 
 -- ---- a bound in the place of a variable
 

@@ -1,9 +1,9 @@
 -- What states say of a moment of a run, and when variables share no place (ISO 7185:1990, 6.5.1). It does not say that
 -- a run keeps them.
-use Rattle.std.specs.Prelude.{◌≡◌, ◌≢◌, ℕ, ℤ, ◌+ℤ◌, ◌≤◌, ◌≤ℤ◌, true, ◌⊎◌, Bool, List, [], ◌∷◌, ◌++◌, Option, Some, None}
-use Rattle.std.specs.Prelude.{length}
-use Rattle.std.specs.Prelude.{Contains, slice_index_or}
+use Rattle.std.specs.Prelude.{◌≡◌, ◌≢◌, ℕ, ℤ, pos, ◌+ℤ◌, ◌≤◌, ◌≤ℤ◌, true, ◌⊎◌, Bool, List, [], ◌∷◌, ◌++◌}
+use Rattle.std.specs.Prelude.{Option, Some, None, Contains, length, slice_get, slice_index_or}
 use Rattle.members.specs.Laws.{IsSet}
+use Rattle.domain.specs.Growths.{HasPair}
 use Rattle.domain.specs.Hull.{HasSet}
 use Rattle.domain.specs.Interval.{Interval, HasMember}
 use Rattle.meaning.specs.declared.store.Value.{Value}
@@ -13,6 +13,7 @@ use Rattle.types.specs.declared.form.OrdinalRange.{OrdinalRange}
 use Rattle.types.specs.declared.form.Step.{Step}
 use Rattle.checker_rows.specs.Rows.{LieIn, Parts, first_index, indexes_of, no_parts}
 use Rattle.checker_state.specs.Bounds.{Bound}
+use Rattle.checker_state.specs.declared.growing.Growing.{Growing}
 use Rattle.checker_state.specs.State.{Claim, Dead, Defined, Facts, Held, Holds as Holding, Live, Ordered, Range, Span}
 use Rattle.checker_state.specs.State.{State, Stretch, Stretched, row_at}
 
@@ -50,6 +51,17 @@ HasNumber moment root number = value_at moment root [] ≡ Some (Number number)
 abbrev pub HoldNumbers : (ordinal : ℕ → Bool) → Moment → Type 0
 HoldNumbers ordinal moment =
     (root : ℕ) (v : Value) → ordinal root ≡ true → value_at moment root [] ≡ Some v → (n : ℤ) × (v ≡ Number n)
+
+-- a variable grows so: the for statement that stands so deep round the point has finished some turns, no more than the
+-- most, and the variable has no value but one behind as many
+abbrev pub GrowsSo : ℕ → Growing → Moment → Type 0
+GrowsSo root growing moment =
+    (k : ℕ) × (slice_get moment.environment.turns growing.depth ≡ Some k) × (pos k ≤ℤ growing.most)
+    × ((n : ℤ) → HasNumber moment root n → HasPair growing.growth (k, n))
+
+abbrev pub GrowthHolds : ℕ → Option Growing → Moment → Type 0
+GrowthHolds root None moment = Unit {0}
+GrowthHolds root (Some growing) moment = GrowsSo root growing moment
 
 -- what number a bound is
 abbrev pub IsBoundBy : Moment → Option ℕ → ℤ → ℤ → Type 0
@@ -128,11 +140,13 @@ module _ (rows : List Parts) where
   Holds (Defined row) moment = IsWhole row moment
   Holds (Holding held) moment = HeldHolds held moment
 
-  -- the range of each row, each row that is defined, and what is held; there is what is known for each row
+  -- the range of each row, each row that is defined, how variables grow, and what is held; there is what is known for
+  -- each row
   pub record FactsHold (known : Facts) (moment : Moment) : Type 0 where
     pub count : length rows ≤ length known.rows
     pub ranges : (row : ℕ) → ValuesLie row (row_at known row).range moment
     pub defined : (row : ℕ) → (row_at known row).is_defined ≡ true → IsWhole row moment
+    pub growths : (root : ℕ) → GrowthHolds root (row_at known root).growth moment
     pub held : (one : Held) → Contains known.held one → HeldHolds one moment
 
   -- what a state says of a moment: no run comes to a dead one

@@ -1,22 +1,24 @@
 -- What a checker knows of a run at a point of it: that a state holds there, of rows that are as it is told; and what an
 -- assignment, stores and turns of loops keep (ISO 7185:1990, 6.5.1, 6.8.2.2, 6.8.3.7 to 6.8.3.9). It does not say that
 -- a run keeps it.
-use Rattle.std.specs.Prelude.{◌≡◌, ℕ, ℤ, ◌<◌, ◌≤◌, ◌⊎◌, Bool, true, false, List, [], ◌∷◌, Option, Some, None}
+use Rattle.std.specs.Prelude.{◌≡◌, ℕ, ℤ, ◌+ℤ◌, ◌<◌, ◌≤◌, ◌⊎◌, Bool, true, false, List, [], ◌∷◌, Option, Some, None}
 use Rattle.std.specs.Prelude.{Contains, slice_index_or}
 use Rattle.std.specs.List.{list_any}
-use Rattle.domain.specs.Interval.{Interval}
+use Rattle.domain.specs.Interval.{Interval, HasMember}
+use Rattle.meaning.specs.Integers.{is_integer_number}
 use Rattle.meaning.specs.declared.store.Value.{Value}
-use Rattle.meaning.specs.declared.store.Value.TheVariants.{Number}
+use Rattle.meaning.specs.declared.store.Value.TheVariants.{Members, Number}
 use Rattle.meaning.specs.Store.{Environment, Store}
 use Rattle.types.specs.declared.form.Step.{Step}
 use Rattle.checker_rows.specs.Rows.{Parts, indexes_of, no_parts}
 use Rattle.checker_state.specs.Bounds.{Bound}
+use Rattle.checker_state.specs.declared.growing.Growing.{Growing}
 use Rattle.checker_state.specs.State.{Dead, Facts, Held, Live, State, Table, row_at}
 use Rattle.checker_state.specs.Changes.{bound_rests_on, rests_on}
 use Rattle.checker_state.specs.Loops.{is_among}
 use Rattle.checker_state.specs.Stores.{Index, Reach}
-use Rattle.checker_state.specs.Holds.{HasComponent, HasValue, IndexesLie, IsBound, IsIn, IsOfRow, Moment, StateHolds}
-use Rattle.checker_state.specs.Holds.{component_at, moment, value_at}
+use Rattle.checker_state.specs.Holds.{GrowsSo, HasComponent, HasNumber, HasValue, IndexesLie}
+use Rattle.checker_state.specs.Holds.{IsBound, IsIn, IsOfRow, Moment, StateHolds, component_at, moment, value_at}
 
 -- an environment shows none but so many variables
 pub record Shows (variables : ℕ) (env : Environment) : Type 0 where
@@ -26,6 +28,25 @@ pub record Shows (variables : ℕ) (env : Environment) : Type 0 where
 abbrev pub IsOfForm : Moment → Option Bound → Value → Type 0
 IsOfForm moment None v = Unit {0}
 IsOfForm moment (Some bound) v = (n : ℤ) × (v ≡ Number n) × IsBound moment bound n
+
+-- the value of an expression that may be a step of a variable: the one that it had plus a number of a range, which is
+-- one of integer
+abbrev pub IsStep : Moment → ℕ → Option Interval → Value → Type 0
+IsStep moment root None v = Unit {0}
+IsStep moment root (Some step) v =
+    (old number : ℤ) × HasNumber moment root old × HasMember step number × (v ≡ Number (old +ℤ number))
+    × (is_integer_number (old +ℤ number) ≡ true)
+
+-- a value is a number of integer
+abbrev pub IsInteger : Value → Type 0
+IsInteger (Number n) = is_integer_number n ≡ true
+IsInteger (Members set) = ⊥
+
+-- a variable grows so where a turn begins, and its value, if it has one, is one of integer
+abbrev pub IsBegun : Moment → (variables root : ℕ) → Growing → Type 0
+IsBegun moment variables root growing =
+    (root < variables) × GrowsSo root growing moment
+    × ((v : Value) → value_at moment root [] ≡ Some v → IsInteger v)
 
 -- ---- what rests on some variables
 
@@ -110,10 +131,11 @@ module _ (rows : List Parts) where
     pub shows : Shows roots env
     pub holds : StateHolds rows state (moment env store)
 
-  -- what is known rests on none of some variables, and the components that these have in a later store lie where their
-  -- rows say
+  -- what is known rests on none of some variables, none of which is known to grow, and the components that these have
+  -- in a later store lie where their rows say
   pub record IsLoose (env : Environment) (aliases : List ℕ) (known : Facts) (after : Store) : Type 0 where
     pub held : (one : Held) → Contains known.held one → rests_on_any aliases one ≡ false
+    pub growths : (root : ℕ) → is_among root aliases ≡ true → (row_at known root).growth ≡ None
     pub ranges : (row : ℕ) (steps : List Step) (v : Value)
         → is_among (slice_index_or rows row no_parts).root aliases ≡ true → IsOfRow rows row steps
         → component_at rows (moment env after) row steps ≡ Some v → IsIn (row_at known row).range v

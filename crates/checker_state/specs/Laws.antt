@@ -1,23 +1,27 @@
 -- What holds of states at the moments of a run: where a state holds, those hold that follow from it, over an
 -- assignment, a condition, stores of components, the turns of a loop, and where two ways meet (ISO 7185:1990, 6.5.1,
 -- 6.7.2.3, 6.7.2.5, 6.8). They do not say that a state which follows is the best that could be known.
-use Rattle.std.specs.Prelude.{◌≡◌, ℕ, ℤ, ◌<◌, ◌≤◌, Bool, true, List, [], Option, Some, Contains}
+use Rattle.std.specs.Prelude.{◌≡◌, ℕ, ℤ, ◌+◌, ◌<◌, ◌≤◌, Bool, true, List, [], Option, Some, Contains, length}
 use Rattle.std.specs.List.{All}
 use Rattle.typed_tree.specs.declared.tree.Expr.{Expr}
 use Rattle.types.specs.declared.form.OrdinalRange.{OrdinalRange}
 use Rattle.members.specs.Members.{can_be_member, empty, of_one, of_range, of_two, range_fits}
 use Rattle.members.specs.declared.sets.Operator.{Operator}
 use Rattle.members.specs.declared.sets.Operator.TheVariants as operator
+use Rattle.domain.specs.declared.growth.Growth.{Growth}
+use Rattle.domain.specs.Growths.{HasPair}
 use Rattle.domain.specs.Interval.{Interval, HasMember, common, is_included}
 use Rattle.meaning.specs.declared.store.Value.{Value}
 use Rattle.meaning.specs.declared.store.Value.TheVariants.{Members, Number}
 use Rattle.meaning.specs.Effect as effect
 use Rattle.meaning.specs.Effect.{Gives, is_in}
 use Rattle.meaning.specs.Meaning.{Surroundings, is_so, value_of}
-use Rattle.meaning.specs.Store.{Environment, Store}
+use Rattle.meaning.specs.Store.{Environment, Store, inside_for}
 use Rattle.checker_rows.specs.Limits.{limits_of}
 use Rattle.checker_rows.specs.Rows.{Parts}
 use Rattle.checker_state.specs.Bounds.{Bound}
+use Rattle.checker_state.specs.declared.growing.Growing.{Growing}
+use Rattle.checker_state.specs.Growths.{can_grow, has_grown, with_growing, without_turns}
 use Rattle.checker_state.specs.State.{Claim, State, Table, state_gives}
 use Rattle.checker_state.specs.Joins.{joined_states}
 use Rattle.checker_state.specs.Changes.{assigned}
@@ -28,8 +32,8 @@ use Rattle.checker_state.specs.declared.value.Known.{Known}
 use Rattle.checker_state.specs.Values.{IsKnown, is_closed_member, is_closed_range, known_range, no_members}
 use Rattle.checker_state.specs.Values.{operated_sets, tested_member, unless_none, with_member, with_members}
 use Rattle.checker_state.specs.Holds.{HasNumber, HoldNumbers, Holds, IsBound, IsIn, moment, value_at}
-use Rattle.checker_state.specs.Knows.{AreEntire, AreRows, AreStored, AreUntouched, InLimits, IsFormApart, IsKept}
-use Rattle.checker_state.specs.Knows.{IsLooseIn, IsOfForm, IsReach, IsReachApart, Knows, OneChanges}
+use Rattle.checker_state.specs.Knows.{AreEntire, AreRows, AreStored, AreUntouched, InLimits, IsBegun, IsFormApart}
+use Rattle.checker_state.specs.Knows.{IsKept, IsLooseIn, IsOfForm, IsReach, IsReachApart, IsStep, Knows, OneChanges}
 
 -- where two ways meet, what is known behind them holds, whichever was taken
 pub record JoinHolds : Type 0 where
@@ -63,11 +67,12 @@ abbrev pub AssignmentsHold : Type 0
 AssignmentsHold =
     (rows : List Parts) (table : Table) → AreRows rows table
     → (env : Environment) (aliases : List ℕ) (state : State) (before after : Store) (root : ℕ) (range : Interval)
-    (form : Option Bound) (v : Value)
+    (form : Option Bound) (step : Option Interval) (v : Value)
     → root < table.variables → OneChanges env root aliases before after
     → value_at (moment env after) root [] ≡ Some v → Knows rows table.variables env state before
     → IsLooseIn rows env aliases state after → IsIn range v → IsOfForm (moment env before) form v
-    → IsFormApart aliases form → Knows rows table.variables env (assigned root range form state) after
+    → IsFormApart aliases form → IsStep (moment env before) root step v
+    → Knows rows table.variables env (assigned root range form step state) after
 
 -- where a condition had a truth value, what is known of that branch holds
 abbrev pub ConditionsTell : Type 0
@@ -102,6 +107,32 @@ pub record LeavingHolds : Type 0 where
       → (env : Environment) (state : State) (root : ℕ) (before after : Store) → root < table.variables
       → OneChanges env root [] before after → ((v : Value) → value_at (moment env after) root [] ≡ Some v → ⊥)
       → Knows rows table.variables env state before → Knows rows table.variables env (with_undefined root state) after
+
+-- what is known of variables that grow with the turns of a for statement
+pub record GrowthsHold : Type 0 where
+  -- before the first turn a value lies where a growth begins
+  pub begins : (rows : List Parts) (table : Table) → AreRows rows table
+      → (env : Environment) (state : State) (store : Store) (root : ℕ) (growth : Growth) (n : ℤ)
+      → root < table.variables
+      → HasNumber (moment env store) root n → Knows rows table.variables env state store
+      → can_grow state root growth ≡ true → HasPair growth (0, n)
+  -- inside one more for statement all is known that was
+  pub inside : (rows : List Parts) (roots : ℕ) (env : Environment) (state : State) (store : Store) (finished : ℕ)
+      → Knows rows roots env state store → Knows rows roots (inside_for env finished) state store
+  -- where a turn begins a variable grows, if its value is so far behind as many turns
+  pub begun : (rows : List Parts) (table : Table) → AreRows rows table
+      → (env : Environment) (state : State) (store : Store) (root : ℕ) (growing : Growing)
+      → IsBegun (moment env store) table.variables root growing → Knows rows table.variables env state store
+      → Knows rows table.variables env (with_growing root growing state) store
+  -- behind a turn a variable that has grown has a value behind one turn more
+  pub grown : (rows : List Parts) (roots : ℕ) (env : Environment) (state : State) (store : Store) (root finished : ℕ)
+      (growth : Growth) (n : ℤ) → HasNumber (moment env store) root n
+      → Knows rows roots (inside_for env finished) state store → has_grown state root (length env.turns) growth ≡ true
+      → HasPair growth (finished + 1, n)
+  -- behind the statement all is known but of its turns
+  pub outside : (rows : List Parts) (roots : ℕ) (env : Environment) (state : State) (store : Store) (finished : ℕ)
+      → Knows rows roots (inside_for env finished) state store
+      → Knows rows roots env (without_turns (length env.turns) state) store
 
 -- after values were stored to components, what is known behind the stores holds
 abbrev pub StoresHold : Type 0

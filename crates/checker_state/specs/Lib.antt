@@ -1,5 +1,6 @@
 pub mod Bounds
 pub mod State
+pub mod Growths
 pub mod Joins
 pub mod Changes
 pub mod Forms

@@ -1,7 +1,7 @@
 -- What a checker knows at a point of a program (ISO 7185:1990, 6.5.1: a variable is undefined or has a value): of each
--- row of components the range of their values and whether all are defined, and what it holds besides: orders of
--- variables, and stretches of rows that are defined; and which facts that gives. It does not say how such a state comes
--- about, nor what it means for a run.
+-- row of components the range of their values, whether all are defined, and how a variable grows with the turns of a
+-- for statement; and what it holds besides: orders of variables, and stretches of rows that are defined; and which
+-- facts that gives. It does not say how such a state comes about, nor what it means for a run.
 use Rattle.std.specs.Prelude.{ℕ, ℤ, pos, ◌+ℤ◌, int_le, Bool, true, false, not, ◌&&◌, ◌||◌, List, [], ◌∷◌, Option}
 use Rattle.std.specs.Prelude.{Some, None, if◌then◌else◌, drop, length, map, nat_eq, nat_lt, slice_index_or, slice_set}
 use Rattle.std.specs.Prelude.{take}
@@ -18,13 +18,16 @@ use Rattle.domain.specs.Versions.{has}
 use Rattle.domain.specs.declared.versions.Extension.TheVariants.{Blocks}
 use Rattle.domain.specs.declared.versions.Version.{Version}
 use Rattle.checker_state.specs.Bounds.{Bound, bound_order, constant, is_at_most, is_variable, plus, raised_bound}
+use Rattle.checker_state.specs.declared.growing.Growing.{Growing}
 
 -- ---- states
 
--- what is known of a row: its values lie in a range, and perhaps each of its components is defined
+-- what is known of a row: its values lie in a range, and perhaps each of its components is defined; that of a variable
+-- may grow with the turns of a for statement round the point, of one at most
 pub record RowState : Type 0 where
   pub range : Interval
   pub is_defined : Bool
+  pub growth : Option Growing
 
 -- the indexes between two bounds
 pub record Span : Type 0 where
@@ -56,7 +59,7 @@ pub data State : Type 0 where
 
 -- a row that is not there: none of its components has a value
 abbrev pub no_row : RowState
-no_row = record { range = vacant; is_defined = false }
+no_row = record { range = vacant; is_defined = false; growth = None }
 
 abbrev pub row_at : Facts → ℕ → RowState
 row_at known row = slice_index_or known.rows row no_row
@@ -93,6 +96,10 @@ with_defined row (Live known) = Live (with_row row (record (row_at known row) { 
 abbrev pub with_range : ℕ → Interval → State → State
 with_range row range Dead = Dead
 with_range row range (Live known) = Live (with_row row (record (row_at known row) { range = range }) known)
+
+-- a variable grows so from here on, or isn't known to
+abbrev pub with_growth : ℕ → Option Growing → Facts → Facts
+with_growth root growth known = with_row root (record (row_at known root) { growth = growth }) known
 
 -- a variable has a value of a range from here on
 abbrev pub with_value : ℕ → Interval → State → State

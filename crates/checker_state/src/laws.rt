@@ -1,6 +1,6 @@
 //! What holds of states at the moments of a run. Each law is the contract of a function that does nothing.
 ghost use Rattle.checker_state.specs.Laws.{AssignmentsHold, ConditionsTell, FormsTell, GivenHolds, HeadsHold};
-ghost use Rattle.checker_state.specs.Laws.{JoinHolds, LeavingHolds, StoresHold, ValuesTell};
+ghost use Rattle.checker_state.specs.Laws.{GrowthsHold, JoinHolds, LeavingHolds, StoresHold, ValuesTell};
 
 /// Where two ways meet, what is known behind them holds, whichever was taken.
 pub fn join_holds()
@@ -35,6 +35,12 @@ pub fn heads_hold()
 /// What is known of a control variable behind its loop holds: where it is its bound, and where it became undefined.
 pub fn leaving_holds()
     ensures { LeavingHolds }
+{}
+
+/// What is known of variables that grow with the turns of a for statement holds: where they begin to, inside the
+/// statement, where a turn begins and where it ends, and behind the statement.
+pub fn growths_hold()
+    ensures { GrowthsHold }
 {}
 
 /// After values were stored to components, what is known behind the stores holds.

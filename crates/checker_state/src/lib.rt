@@ -5,6 +5,7 @@
 mod bound;
 mod ends;
 mod forms;
+mod growing;
 mod held;
 pub mod laws;
 mod reach;
@@ -15,6 +16,7 @@ mod value;
 pub use bound::{Bound, Rebinding};
 pub use ends::{Ends, difference, sum};
 pub use forms::{bound_form, entire};
+pub use growing::{Growing, is_same_growth, joined_growth};
 pub use held::{Claim, Held, Order, Point, Span, Stretch};
 pub use reach::{Index, Indexes, Reach};
 pub use sets::{

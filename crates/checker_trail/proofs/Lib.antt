@@ -4,3 +4,4 @@ pub mod ConditionsOf
 pub mod Turns
 pub mod Elements
 pub mod Meeting
+pub mod Outside

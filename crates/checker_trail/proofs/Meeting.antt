@@ -1,6 +1,6 @@
 -- Where two ways meet: what is known row by row, and what is held, is what is known behind both.
 use Rattle.std.proofs.Common.{arith, ◌≡◌, ◌⊎◌, ⊎_elim, inl, inr, ◌∙◌, sym, ap, ap₂, refl, subst, ℕ, ℤ, zero, suc, ◌<◌, Bool, true, false, cond, ◌&&◌, ◌||◌}
-use Rattle.std.proofs.Common.{None}
+use Rattle.std.proofs.Common.{Option, None}
 use Rattle.std.proofs.Common.{int_lt}
 use Rattle.std.proofs.Common.{List, [], ◌∷◌, ◌++◌, filter, get_or, length, map, max, set}
 use Rattle.std.specs.List.{Contains, range_with_len}
@@ -19,7 +19,10 @@ use Rattle.checker_trail.specs.declared.state.State.{State as Kept}
 use Rattle.checker_known.specs.declared.change.Branch.{Branch}
 use Rattle.checker_known.specs.declared.change.Change.{Change}
 use Rattle.checker_known.specs.declared.change.Change.TheVariants as change
+use Rattle.checker_state.specs.declared.growing.Growing.{Growing}
+use Rattle.checker_state.specs.Growths.{joined_growth}
 use Rattle.checker_state.specs.Joins.{joined_facts, joined_row, joined_states}
+use Rattle.checker_state.proofs.Grown.{joined-itself}
 use Rattle.checker_trail.specs.Meets.{AreAlike, Joined, Joins, JoinsBehind, with_rows}
 use Rattle.checker_known.specs.Told.{AreTold, arrival_at, joined_at, none, rows_changed, said_at}
 use Rattle.checker_state.specs.State.{Dead, Facts, Held, Live, RowState, State, Table, gives, is_whole, no_row, row_at, with_more}
@@ -112,14 +115,17 @@ whole-alike false false x y same = refl
 whole-alike true false x y same = absurd (cc)
 whole-alike false true x y same = absurd (cc)
 
-abbrev state_of : Interval → Bool → RowState
-state_of range is_defined = record { range = range; is_defined = is_defined }
+abbrev state_of : Interval → Bool → Option Growing → RowState
+state_of range is_defined growth = record { range = range; is_defined = is_defined; growth = growth }
 
 alike-joined : (table : Table) (one other : Facts) (row : ℕ) → row_at one row ≡ row_at other row → row_at one row ≡ joined_row table one other row
 alike-joined table one other row same =
-    sym (ap₂ state_of
-    (ap (λ (s : RowState). joined (row_at one row).range s.range) (sym same) ∙ joined-same (row_at one row).range)
-    (whole-alike (row_at one row).is_defined (row_at other row).is_defined _ _ (ap (λ (s : RowState). s.is_defined) same)))
+    let range =
+    ap (λ (s : RowState). joined (row_at one row).range s.range) (sym same) ∙ joined-same (row_at one row).range in
+    let whole = whole-alike (row_at one row).is_defined (row_at other row).is_defined _ _ (ap (λ (s : RowState). s.is_defined) same) in
+    let growth =
+    ap (λ (s : RowState). joined_growth (row_at one row).growth s.growth) (sym same) ∙ joined-itself (row_at one row).growth in
+    sym (λ i. state_of (range i) (whole i) (growth i))
 
 -- ---- two ways from a start
 
@@ -191,6 +197,7 @@ module _ (table : Table) (one there : Core) (rows : List ℕ) (told : Told) (are
           is_defined =
               ((row_at (viewed one) row).is_defined && is_whole table (viewed there) row)
               || (s.is_defined && is_whole table (viewed one) row);
+          growth = joined_growth (row_at (viewed one) row).growth s.growth;
         },
       ) in pair ∷ rest)
       (sym (get_or-map said_row there.rows row none)) (pairs-are numbers)

@@ -32,12 +32,13 @@ use Rattle.checker_trail.proofs.Ways.{Returns, moves-as, moves-dead, moves-live,
 
 -- what stands for a row that isn't there
 abbrev pub none : Row
-none = record { range = vacant; is_defined = false }
+none = record { range = vacant; is_defined = false; growth = None }
 
 -- a row that is said to be what is known of a number is the one that stands there
 pub row-said : (from : Core) (row : ℕ) (was : Row) → said_row was ≡ row_at (viewed from) row → was ≡ get_or from.rows row none
 row-said from row was is =
-    ap (λ (s : RowState). let one : Row = record { range = s.range; is_defined = s.is_defined } in one) (is ∙ get_or-map said_row from.rows row none)
+    ap (λ (s : RowState). let one : Row = record { range = s.range; is_defined = s.is_defined; growth = s.growth } in one)
+    (is ∙ get_or-map said_row from.rows row none)
 
 row-returns : (from : Core) (row : ℕ) (was now : Row) → was ≡ get_or from.rows row none → Returns (change.Row row was now) from
 row-returns from row was now is =

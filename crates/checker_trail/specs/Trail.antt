@@ -1,13 +1,15 @@
 -- How the state of the program changes: each change can be taken back, and stands on a trail until it is. It does not
 -- say which changes are made.
-use Rattle.std.specs.Prelude.{None, ◌≡◌, List, [], ◌∷◌, ◌++◌, ℕ}
+use Rattle.std.specs.Prelude.{Option, None, ◌≡◌, List, [], ◌∷◌, ◌++◌, ℕ}
 use Rattle.std.specs.Prelude.{take, drop}
 use Rattle.typed_tree.specs.declared.tree.Tree.{Tree}
 use Rattle.domain.specs.declared.versions.Version.{Version}
 use Rattle.checker_trail.specs.declared.state.State.{State as Kept}
 use Rattle.checker_known.specs.declared.change.Branch.{Branch}
 use Rattle.checker_known.specs.declared.change.Change.{Change}
-use Rattle.checker_state.specs.State.{Dead, Held, Live, RowState, State, of_types, with_row}
+use Rattle.checker_state.specs.declared.growing.Growing.{Growing}
+use Rattle.checker_state.specs.Growths.{row_outside}
+use Rattle.checker_state.specs.State.{Dead, Held, Live, RowState, State, of_types, row_at, with_growth, with_row}
 use Rattle.checker_known.specs.View.{type_rows}
 use Rattle.checker_known.specs.Known.{Core, core, inverse, made, redone, seen_core, undone}
 
@@ -85,6 +87,21 @@ pub record Comes (end : Core) (old new : Kept) : Type 0 where
 abbrev pub with_state : ℕ → RowState → State → State
 with_state row known Dead = Dead
 with_state row known (Live facts) = Live (with_row row known facts)
+
+-- a variable grows so from here on, or isn't known to, where a run comes
+abbrev pub with_growth_at : ℕ → Option Growing → State → State
+with_growth_at root growth Dead = Dead
+with_growth_at root growth (Live facts) = Live (with_growth root growth facts)
+
+-- several variables aren't known to
+abbrev pub all_ungrown : List ℕ → State → State
+all_ungrown [] state = state
+all_ungrown (root ∷ roots) state = all_ungrown roots (with_growth_at root None state)
+
+-- a row doesn't grow any longer with the turns of a for statement so deep
+abbrev pub at_outside : (depth row : ℕ) → State → State
+at_outside depth row Dead = Dead
+at_outside depth row (Live facts) = Live (with_row row (row_outside depth (row_at facts row)) facts)
 
 -- something else is held from here on, where a run comes
 abbrev pub over_held : (List Held → List Held) → State → State

@@ -14,20 +14,30 @@ use checker_state::{Bound, Held, Order, Rebinding};
 use domain::interval::Interval;
 
 impl<'a> State<'a> {
-    /// A variable has a value of a range from here on, perhaps of a bound form.
-    pub fn assign(&mut self, root: u32, range: Interval, form: Option<Bound>)
-        ensures { Moves (assigned root range (said_form form)) self.old self.new }
+    /// A variable has a value of a range from here on, perhaps of a bound form, and perhaps the one that it had plus a
+    /// number of a step.
+    pub fn assign(
+        &mut self,
+        root: u32,
+        range: Interval,
+        form: Option<Bound>,
+        step: Option<Interval>,
+    )
+        ensures { Moves (assigned root range (said_form form) step) self.old self.new }
     {
+        let growth = self.stepped_growth(root, step);
         self.change(root, form);
         self.set_range(root as usize, range);
         self.define(root as usize);
         self.equate(root, form);
+        self.go_on_growing(root, growth);
     }
 
     /// A variable got a value, perhaps of a bound form.
     pub fn change(&mut self, root: u32, form: Option<Bound>)
         ensures { Moves (with_change root (said_form form)) self.old self.new }
     {
+        self.set_growth(root as usize, None);
         self.rebind(Rebinding::Changed { root, form });
     }
 

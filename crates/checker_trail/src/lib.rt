@@ -3,6 +3,7 @@
 
 mod changes;
 mod conditions;
+mod growths;
 mod joins;
 mod loops;
 mod start;

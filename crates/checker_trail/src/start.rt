@@ -25,6 +25,7 @@ impl<'a> State<'a> {
                 alloc,
                 known: Known {
                     rows: Vec::new(alloc),
+                    growing: 0,
                     held: Vec::new(alloc),
                     disorder: 0,
                     knots: Vec::new(alloc),

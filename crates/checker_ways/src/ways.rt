@@ -6,6 +6,7 @@ ghost use Rattle.checker_state.specs.Changes.{bound_rests_on};
 ghost use Rattle.checker_state.specs.State.{bound_range};
 ghost use Rattle.checker_state.specs.View.{said_bound, said_form};
 ghost use Rattle.checker_trail.specs.Trail.{Moves, seen};
+ghost use Rattle.checker_loops.specs.Growths.{most_between};
 ghost use Rattle.checker_loops.specs.Loops.{touched};
 ghost use Rattle.checker_loops.specs.View.{head_round};
 ghost use Rattle.checker_loops.specs.Ways.{end_of, entered, form_before, in_order, met, next, on_way, own};
@@ -140,6 +141,17 @@ impl Way {
         }
     }
 
+    /// How many turns behind the first there are at most.
+    pub fn most(&self) -> i64
+        ensures { result ≡ most_between self.now.direction self.now.first.values self.now.last.values }
+    {
+        let (first, last) = (self.first.values, self.last.values);
+        match self.direction {
+            Direction::To => last.last() - first.first(),
+            Direction::DownTo => first.last() - last.first(),
+        }
+    }
+
     /// It has values from here on, or it has none.
     pub fn relate(&self, state: &mut State, counts: bool)
         ensures { Moves (where_counts counts (said_way self.now)) state.old state.new }
@@ -173,7 +185,7 @@ impl Way {
         ensures { Moves (turn_ended (said_way self.now)) state.old state.new }
     {
         let range = self.values_behind(state.range(self.control));
-        state.assign(self.control, range, self.next());
+        state.assign(self.control, range, self.next(), None);
         state.unless_empty(range);
         in_order(state, self.direction, self.own(), self.last.form);
     }

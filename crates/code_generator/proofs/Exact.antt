@@ -24,7 +24,7 @@ use Rattle.meaning.specs.Counting.{value_behind}
 use Rattle.meaning.specs.Store.{part}
 use Rattle.meaning.specs.Effect.{Stops, and_then, enter, is_in, stop, store, take_in, taken, use_turn}
 use Rattle.meaning.specs.Laws.{AllUseTurnsExactly, UsedTurns, state_after}
-use Rattle.meaning.specs.Meaning.{Evaluation, Surroundings, all_of, all_passed, effect_of, link_step, parameter_of, passing_of, selected, for_round}
+use Rattle.meaning.specs.Meaning.{Evaluation, Surroundings, all_of, all_passed, effect_of, link_step, parameter_of, passing_of, selected, for_round, for_turn}
 use Rattle.meaning.specs.Meaning.{accessed, begun, is_so, read_as, read_of, repeat_round, turn_if, unless_outside, values_of, while_round}
 
 -- the same reply with so many turns left
@@ -151,8 +151,10 @@ module _ (env : Surroundings) (exact : AllUseTurnsExactly env) where
       exact_then use_turn _ exact.turn (λ _. exact_then (all_of (map effect_of ss) env) _ (exact_statements ss)
       (λ _. exact_then (value_of condition env) _ (exact.values condition) (λ v. exact_give (if is_so v then None else Some tt))))
 
-  pub exact_for_round : (head : ForHead) (last : ℤ) (body : Stmt) (n : ℤ) → UsesTurnsExactly (for_round head last (effect_of body) env n)
-  exact_for_round head last body n =
+  pub exact_for_round : (head : ForHead) (first last : ℤ) (body : Stmt)
+      → ((n : ℤ) → UsesTurnsExactly (effect_of body (for_turn head first env n))) → (n : ℤ)
+      → UsesTurnsExactly (for_round head first last (effect_of body) env n)
+  exact_for_round head first last body done n =
       exact_then (store (env.visible.variables head.control) (Number n)) _ (exact.stores (env.visible.variables head.control) (Number n))
-      (λ _. exact_then use_turn _ exact.turn (λ _. exact_then (effect_of body env) _ (exact.statements body)
+      (λ _. exact_then use_turn _ exact.turn (λ _. exact_then (effect_of body (for_turn head first env n)) _ (done n)
       (λ _. exact_give (value_behind head.direction last n))))

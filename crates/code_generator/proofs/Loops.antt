@@ -144,6 +144,16 @@ reset g slack next = record g {
       };
 }
 
+-- the setting after other finished turns
+abbrev pub after_turns : Setting → List ℕ → Setting
+after_turns g turns = record g {
+  environment = record g.environment { turns = turns };
+  types_are = g.types_are;
+  shows = λ root variable at seen.
+      let x = g.shows root variable at seen in
+      record { place = x.place; place_is = x.place_is; owner = x.owner; leads = x.leads; way = x.way; reaches = x.reaches };
+}
+
 module _ (g : Setting) (slack next : ℕ) where
   -- an end with less slack, by fewer turns
   ends_from_reset : (turns left : ℕ) (m : State) (why : Ending) (output : List ℕ) → turns - g.slack ≤ left - slack

@@ -35,7 +35,7 @@ use Rattle.typed_tree.specs.declared.tree.Stmt.TheFolds.{fold-Stmt, map-Stmt, fo
 use Rattle.meaning.specs.declared.outcome.Ending.TheVariants as ending
 use Rattle.meaning.specs.declared.store.Value.TheVariants as value
 use Rattle.meaning.specs.Store.{kept, forgotten}
-use Rattle.meaning.specs.Counting.{has_values, next_value, value_behind}
+use Rattle.meaning.specs.Counting.{has_values, next_value, value_behind, values_before}
 use Rattle.meaning.specs.Effect as effect
 use Rattle.meaning.specs.Effect.{Round}
 use Rattle.meaning.specs.Meaning.{Execution, is_so, turn_if, while_round, repeat_round, for_round, for_rounds, for_between, is_among, arm_of, whole_of}
@@ -69,7 +69,7 @@ use Rattle.code_generator.proofs.Setting.{AllHeld, branched, goes_around, Settin
 use Rattle.code_generator.proofs.Setting.{Here, goes_on}
 use Rattle.code_generator.proofs.Setting.{jumps, fails, entered}
 use Rattle.code_generator.proofs.Loops.{Rounds, RoundsBehind, RoundRuns, round_again, round_over, turn_then, turned, loops, reset, rounds_from_reset}
-use Rattle.code_generator.proofs.Loops.{round_on}
+use Rattle.code_generator.proofs.Loops.{after_turns, round_on}
 use Rattle.code_generator.proofs.Accesses.{Indexes, expressions, codes as index_codes}
 use Rattle.code_generator.proofs.Assigns.{told, told_back, assign_runs, copy_runs}
 use Rattle.code_generator.proofs.Evaluating.{Good, Shape, both, good_parts, in_order, ordinal_good, ordinal_shape, same_four, same_shape, sites, ExecutesAs}
@@ -645,18 +645,18 @@ stepped g s base held n l direction.DownTo place head based high room fit fit' a
     steps g s base held n l based high room instr.Subtract (frames.of_two dyadic.Subtract) (n -ℤ pos 1) place head at1 at2 at3 at4 at5 refl
     (difference_is n (pos 1) fit one_fits fit')
 
--- a statement inside another one, above the cells that this one holds
-above_held : (g : Setting) (known : CallsRun g.depth) (body : (s : Stmt) × StmtRuns s) → repeats body.0 ≤ g.slack
+-- a statement inside another one, after some finished turns, above the cells that this one holds
+above_held : (g : Setting) (turns : List ℕ) (known : CallsRun g.depth) (body : (s : Stmt) × StmtRuns s) → repeats body.0 ≤ g.slack
     → Good (stmt_shape g body.0) → (held row : List Cell) → AllHeld g held
     → g.below + length held + (stmt_depth body.0 + length row) ≤ g.limit → (place : ℕ) (base : List Cell) (s : effect.State)
     → Stands g.target place (stmt_code body.0 (holding (length row) g.scope) place) → Based g s base
     → Executes g (on g (base ++ (held ++ row)) place s) (held ++ row) (place + length (stmt_code body.0 (holding (length row) g.scope) place))
-    (effect_of body.0 (around g)) s
-above_held g known body few good held row high room place base s stands based =
+    (effect_of body.0 (around (after_turns g turns))) s
+above_held g turns known body few good held row high room place base s stands based =
     let next = count (g.scope.next + length row) in
     let long = length-append held row in
     let reach = limit_far g in
-    body.1 (reset g g.slack next) known few place base (held ++ row) s stands good based (omega (arith, long, high, reach, room))
+    body.1 (reset (after_turns g turns) g.slack next) known few place base (held ++ row) s stands good based (omega (arith, long, high, reach, room))
     (omega (arith, long, room))
 
 module _ (g : Setting) (known : CallsRun g.depth) (head : ForHead) (scalar : IsScalar g head.control) (body : (s : Stmt) × StmtRuns s)
@@ -694,8 +694,12 @@ module _ (g : Setting) (known : CallsRun g.depth) (head : ForHead) (scalar : IsS
   abbrev fit : ℤ → Type 0
   fit n = Fits n × (has_values head.direction n l ≡ true)
 
-  abbrev round : Round ℤ
-  round = for_round head l (effect_of body.0) (around g)
+  -- a round where the first value is this one, and the finished turns at a value
+  abbrev round : ℤ → Round ℤ
+  round first = for_round head first l (effect_of body.0) (around g)
+
+  abbrev finished : ℤ → ℤ → List ℕ
+  finished first n = g.environment.turns ++ values_before head.direction first n ∷ []
 
   enough : g.below + length held + 4 ≤ g.limit
   enough = omega arith
@@ -737,18 +741,19 @@ module _ (g : Setting) (known : CallsRun g.depth) (head : ForHead) (scalar : IsS
         (comes_on g.target 4 1 _ _ _ came
         (subst (λ q. Comes g.target 1 (on g (base ++ hold n) q s) (on g (base ++ hold (next_value head.direction n)) start s)) p again))
 
-    for_round_runs : RoundRuns g fit hold start out (hold l) round
-    for_round_runs n base s fits based =
+    for_round_runs : (first : ℤ) → RoundRuns g fit hold start out (hold l) (round first)
+    for_round_runs first n base s fits based =
         let s1 : effect.State = record s { store = kept s.store (g.environment.variables head.control) (value.Number n) } in
         let base1 = slice_set base (slot g head.control scalar) (Number n) in
         let based1 = variable_kept g head.control scalar s base n based fits.0 in
         turn_then g fit hold start out (hold l) s.turns body_code (next_code ++ end_code) (start + 2) _ (on g (base1 ++ hold n) (start + 2) s) (hold n)
-        (effect_of body.0 (around g)) (value_behind head.direction l n) s1 refl
+        (effect_of body.0 (around (after_turns g (finished first n)))) (value_behind head.direction l n) s1 refl
         (comes_less g.target 1 2 _ _ (omega arith)
         (begins g s base held n l based high enough head.control start scalar fits.0 from_begin.0 from_begin.1.0)) (omega arith)
-        ((exact_around g).statements body.0) from_inside
+        ((exact_around (after_turns g (finished first n))).statements body.0) from_inside
         (λ left fewer inside.
-        above_held g known body few good held (Number n ∷ Number l ∷ []) high (omega arith) (start + 2) base1 (record s1 { turns = left }) inside
+        above_held g (finished first n) known body few good held (Number n ∷ Number l ∷ []) high (omega arith) (start + 2) base1
+        (record s1 { turns = left }) inside
         (later g left s1 base1 fewer based1))
         (λ base2 u rest based2 fewer.
         turns_back n base2 u s.turns (int_eq n l) refl fits fewer based2
@@ -782,14 +787,16 @@ module _ (g : Setting) (known : CallsRun g.depth) (head : ForHead) (scalar : IsS
           let a = loads_held g s base held (Number n ∷ Number l ∷ []) [] here 0 (Number n) four based high (sym (append-nil here)) refl (omega arith) rest.0 in
           let b = stores_held g s base held (Number n ∷ Number l ∷ []) (here ++ Number n ∷ []) 0 (Number n) six based high refl (omega arith) (omega arith)
           rest.1.1.0 in
-          let looping = subst (λ m. Executes g (on g here m s) (hold l) out (effect.looped round n) s) (sym q)
-          (loops g fit hold start out (hold l) round ((goes_around g).fors head l body.0)
-          (λ m. exact_for_round (around g) (exact_around g) head l body.0 m) for_round_runs n base s (fits, has) based) in
-          let last_test : Action (Unit {0}) = require (effect.is_in head.last.fits.range (value.Number l)) head.last.fits.site >>= λ _. effect.looped round n in
+          let looping = subst (λ m. Executes g (on g here m s) (hold l) out (effect.looped (round n) n) s) (sym q)
+          (loops g fit hold start out (hold l) (round n) ((goes_around g).fors head n l body.0)
+          (λ m. exact_for_round (around g) (exact_around g) head n l body.0 (λ k. (exact_around (after_turns g (finished n k))).statements body.0) m)
+          (for_round_runs n) n base s (fits, has) based) in
+          let last_test : Action (Unit {0}) = require (effect.is_in head.last.fits.range (value.Number l)) head.last.fits.site
+          >>= λ _. effect.looped (round n) n in
           let last_here = subst (λ cs. Executes g (on g cs (six + 1) s) (hold l) out last_test s) (sym split)
-          (range_then g (kept_on g (hold l) out) head.last.fits l (base ++ one) (six + 1) s (effect.looped round n) rest.1.1.1.0 site_last
+          (range_then g (kept_on g (hold l) out) head.last.fits l (base ++ one) (six + 1) s (effect.looped (round n) n) rest.1.1.1.0 site_last
           (linked g s base one based) fit_last
-          (λ _. subst (λ cs. Executes g (on g cs (six + 1 + 1) s) (hold l) out (effect.looped round n) s) split looping)) in
+          (λ _. subst (λ cs. Executes g (on g cs (six + 1 + 1) s) (hold l) out (effect.looped (round n) n) s) split looping)) in
           subst (λ m. Executes g (on g here m s) (hold l) out (rounds n) s) p
           (runs_from g (kept_on g (hold l) out) 1 _ _ (rounds n) s a
           (range_then g (kept_on g (hold l) out) head.first.fits n here (four + 1) s last_test rest.1.0 site_first
@@ -915,7 +922,8 @@ module _ (g : Setting) (known : CallsRun g.depth) (site : ℕ) (within : site < 
         | true ↦ λ there.
             runs_from g (kept_on g index out) 0 _ _ (effect_of arm.0 (around g)) s there
             (done_jumps g code rest inside out _ index (effect_of arm.0 (around g)) s from_arm
-            (λ front. above_held g known arm (omega arith) parts.0 held (Number n ∷ []) high (omega (arith, deep)) inside base s front based))
+            (λ front. above_held g g.environment.turns known arm (omega arith) parts.0 held (Number n ∷ []) high
+            (omega (arith, deep)) inside base s front based))
         | false ↦ λ there.
             runs_from g (kept_on g index out) 1 _ _ (arm_of site rows (map effect_of others) n (around g)) s
             (comes_on g.target 0 1 _ _ _ there (jumps g next (base ++ index) (place + length compared) s jump.0))

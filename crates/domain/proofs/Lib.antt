@@ -1,1 +1,2 @@
+mod Growths
 pub mod Numbers

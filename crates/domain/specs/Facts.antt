@@ -15,6 +15,7 @@ use Rattle.domain.specs.declared.facts.Spans.{Spans}
 use Rattle.domain.specs.declared.facts.Spans.TheVariants as kept_spans
 use Rattle.domain.specs.declared.facts.Step.{Step as KeptStep}
 use Rattle.domain.specs.declared.facts.Step.TheVariants as kept_step
+use Rattle.domain.specs.declared.growth.Growth.{Growth}
 
 -- a step of a path: to all elements of an array, or to the field of a name
 pub data Step : Type 0 where
@@ -38,11 +39,12 @@ pub record Span : Type 0 where
 
 -- what may be said of variables: each defined value at a path lies in a range; what lies at a path is defined, or each
 -- element of it whose indexes lie in spans, the first index in the first, and so on; the value of a variable is at most
--- that of another plus a number
+-- that of another plus a number; a defined value of a variable grows so with the turns of a for statement
 pub data Fact : Type 0 where
   Range : Path → Interval → Fact
   Defined : Path → List Span → Fact
   Order : (root other : ℕ) → ℤ → Fact
+  Grows : (root : ℕ) → Growth → Fact
 
 -- ---- the order of facts
 
@@ -73,14 +75,16 @@ abbrev pub rank : Fact → ℕ
 rank (Range path range) = 0
 rank (Defined path spans) = 1
 rank (Order root other number) = 2
+rank (Grows root growth) = 3
 
 -- by forms, where fewer spans come first, then by paths or variables, then by spans: facts that it calls equal are one
--- but for the numbers of a range or an order
+-- but for the numbers of a range, an order or a growth
 abbrev pub subject_order : Fact → Fact → Ordering
 subject_order (Range p a) (Range q b) = path_order p q
 subject_order (Defined p a) (Defined q b) =
     ordering_then (nat_cmp (length a) (length b)) (ordering_then (path_order p q) (slice_cmp span_order a b))
 subject_order (Order a b m) (Order c d n) = ordering_then (nat_cmp a c) (nat_cmp b d)
+subject_order (Grows a g) (Grows b h) = nat_cmp a b
 subject_order f g = nat_cmp (rank f) (rank g)
 
 -- ---- as programs keep them

@@ -1,4 +1,6 @@
 pub mod Facts
+pub mod GrowthLaws
+pub mod Growths
 pub mod Hull
 pub mod Hulls
 pub mod Interval

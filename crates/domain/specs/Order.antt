@@ -20,7 +20,7 @@ span-descending p q z low high = (omega (arith, ints, clamps), omega (arith, int
 
 -- ---- products
 
-times-le : (k : ℕ) (x y : ℤ) → x ≤ℤ y → (x *ℤ pos k) ≤ℤ (y *ℤ pos k)
+pub times-le : (k : ℕ) (x y : ℤ) → x ≤ℤ y → (x *ℤ pos k) ≤ℤ (y *ℤ pos k)
 times-le k (pos a) (pos b) below =
     let more = mul-le-mul_right {m = a} {n = b} k (omega (arith, ints)) in
     omega (arith, ints)

@@ -2,7 +2,7 @@
 -- does not say how one is spelled.
 use Rattle.std.specs.Prelude.{ℕ, Bool, nat_le, if◌then◌else◌}
 use Rattle.domain.specs.declared.versions.Extension.{Extension}
-use Rattle.domain.specs.declared.versions.Extension.TheVariants.{Blocks}
+use Rattle.domain.specs.declared.versions.Extension.TheVariants.{Blocks, Growths}
 use Rattle.domain.specs.declared.versions.Version.{Version}
 use Rattle.domain.specs.declared.versions.Version.TheVariants.{One, Two}
 
@@ -14,6 +14,7 @@ number Two = 2
 -- the number of the first version that has an extension
 abbrev pub since : Extension → ℕ
 since Blocks = 2
+since Growths = 2
 
 abbrev pub has : Version → Extension → Bool
 has version extension = nat_le (since extension) (number version)

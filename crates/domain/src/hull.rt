@@ -5,7 +5,7 @@ ghost use Rattle.members.specs.Members.{empty, of_one, of_range, of_two};
 ghost use Rattle.domain.specs.Interval.{Interval as Range, HasMember, is_included, joined, common};
 ghost use Rattle.domain.specs.Hull.{HasSet, IncludesSets, IsHull, hull_of, hull_between};
 ghost use Rattle.domain.specs.Hulls.{included-has_set, joined-has_set_left, joined-has_set_right, common-has_set};
-ghost use Rattle.domain.specs.Hulls.{common-has_set_left, common-has_set_right, never_vacant};
+ghost use Rattle.domain.specs.Hulls.{never_vacant};
 
 use crate::Domain;
 use crate::interval::Interval;
@@ -139,10 +139,6 @@ impl Domain for Hull {
     ghost join_has_right = { joined-has_set_right };
 
     ghost meet_has_common = { common-has_set };
-
-    ghost meet_has_left = { common-has_set_left };
-
-    ghost meet_has_right = { common-has_set_right };
 
     ghost has_present = { never_vacant };
 }

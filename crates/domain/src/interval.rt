@@ -2,8 +2,7 @@ ghost use Rattle.std.specs.Prelude.{◌≡◌, ◌↔◌, ℤ, pos, ◌+ℤ◌, 
 ghost use Rattle.domain.specs.Interval.{Interval as Range, IsEnd, HasMember, Includes, has_number, is_vacant};
 ghost use Rattle.domain.specs.Interval.{is_included, joined, common, between, sum, difference, negated, held};
 ghost use Rattle.domain.specs.Interval.{nearest_end};
-ghost use Rattle.domain.specs.Ranges.{included-has, joined-has_left, joined-has_right, common-has, common-has_left};
-ghost use Rattle.domain.specs.Ranges.{common-has_right, has-present};
+ghost use Rattle.domain.specs.Ranges.{included-has, joined-has_left, joined-has_right, common-has, has-present};
 
 use crate::Domain;
 use std::marker::Model;
@@ -13,7 +12,7 @@ mod operators;
 mod truth_values;
 
 /// The greatest end of a range, and its negative the least: sums of two ends fit 64 bits.
-const LIMIT: i64 = 4611686018427387903;
+pub(crate) const LIMIT: i64 = 4611686018427387903;
 
 /// A range of whole numbers between -4611686018427387903 and 4611686018427387903. It is empty where its first number
 /// is above its last; the empty range is written 1..0.
@@ -123,7 +122,7 @@ impl Interval {
     }
 
     /// The numbers from a first to a last one.
-    fn between_ends(first: i64, last: i64) -> Interval
+    pub(crate) fn between_ends(first: i64, last: i64) -> Interval
         requires first_end { IsEnd first }
         requires last_end { IsEnd last }
         ensures { result ≡ between first last }
@@ -218,10 +217,6 @@ impl Domain for Interval {
     ghost join_has_right = { joined-has_right };
 
     ghost meet_has_common = { common-has };
-
-    ghost meet_has_left = { common-has_left };
-
-    ghost meet_has_right = { common-has_right };
 
     ghost has_present = { has-present };
 }

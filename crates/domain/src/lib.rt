@@ -1,12 +1,14 @@
 //! The domains of the checker's abstract values, the facts that it may know, and the versions of certificates.
 //!
 //! `Domain` has the four operations that the checker's soundness stands on, with their laws; `Interval` is a
-//! domain, with the arithmetic of ranges, and `Hull` is one, with the operators of sets.
+//! domain, with the arithmetic of ranges, `Hull` is one, with the operators of sets, and `Growth` is one, with the
+//! steps and turns of a loop.
 #![tactic(auto)]
 
 ghost use Rattle.std.specs.Prelude.{◌≡◌, Bool, true, false};
 
 pub mod facts;
+pub mod growth;
 pub mod hull;
 pub mod interval;
 pub mod versions;
@@ -38,7 +40,7 @@ pub trait Domain: Sized {
     fn join(&self, other: &Self) -> Self
         ensures { result ≡ joined self.now other.now };
 
-    /// A value that has the members that both have, and no others.
+    /// A value that has the members that both have; it may have more.
     fn meet(&self, other: &Self) -> Self
         ensures { result ≡ common self.now other.now };
 
@@ -53,10 +55,6 @@ pub trait Domain: Sized {
     ghost join_has_right: { (a b : Self) (m : Member) → has b m → has (joined a b) m };
 
     ghost meet_has_common: { (a b : Self) (m : Member) → has a m → has b m → has (common a b) m };
-
-    ghost meet_has_left: { (a b : Self) (m : Member) → has (common a b) m → has a m };
-
-    ghost meet_has_right: { (a b : Self) (m : Member) → has (common a b) m → has b m };
 
     ghost has_present: { (a : Self) (m : Member) → has a m → vacant a ≡ false };
 }

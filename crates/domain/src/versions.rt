@@ -15,6 +15,8 @@ pub enum Version {
 pub enum Extension {
     /// Blocks: defined elements of a matrix, by both their indexes.
     Blocks,
+    /// Growths: how variables change with the turns of a for statement.
+    Growths,
 }
 
 impl Version {
@@ -42,7 +44,7 @@ impl Extension {
         ensures { result ≡ since self }
     {
         match self {
-            Extension::Blocks => 2,
+            Extension::Blocks | Extension::Growths => 2,
         }
     }
 }

@@ -14,7 +14,7 @@ use Rattle.typed_tree.specs.Accesses.{Origin, AtVariable, AtRecord}
 use Rattle.meaning.specs.Store.{Environment, Place, Store}
 use Rattle.meaning.specs.Effect.{State, Reply, Gives, Stops, Action, ◌>>=◌, and_then, begin_with, end_with, give}
 use Rattle.meaning.specs.Meaning.{Activation, Argument, OfValue, Calls, Surroundings, activated, assign_all, calls_of, effect_of, environment_of}
-use Rattle.meaning.specs.Meaning.{begun, executed, place_at, result_of, with_record}
+use Rattle.meaning.specs.Meaning.{begun, executed, place_at, result_of, with_record, within_for}
 use Rattle.interpreter_state.specs.declared.activation.Activation.{Activation as KeptActivation}
 use Rattle.interpreter_state.specs.declared.work.Caller.{Caller}
 use Rattle.interpreter_state.specs.declared.work.Caller.TheVariants as caller
@@ -198,6 +198,8 @@ waits_alike tree env one other outer (caller.Call waiting work ∷ callers) deep
 )
 waits_alike tree env one other outer (caller.With work ∷ callers) deep told waits =
     (waits.0, waits.1, waits.2, waits.3, waits_alike tree waits.0 one other waits.1 callers deep told waits.4, waits.5)
+waits_alike tree env one other outer (caller.For work ∷ callers) deep told waits =
+    (waits.0, waits.1, waits.2, waits.3, waits_alike tree waits.0 one other waits.1 callers deep told waits.4, waits.5)
 
 -- what the latest caller waits with, where it is an activation
 caller_waits : (old : Run) (waiting : KeptActivation) (work : Vec Work Global) (left : List Caller) (env : Surroundings) (outer : Resumption) (s : State) →
@@ -337,6 +339,66 @@ agrees_opened old new wider work place env outer s agrees alike records kept pus
     } in
     subst (λ (r : Run). Agrees there next r s)
     (sym (same ∙ ap (λ (a : KeptActivation). record old { callers = new.callers; activation = a; pending = new.pending }) alike)) fields
+
+-- what stands behind a turn of a for goes on, where there is a for less
+pub ends_turn : (old new : Run) (work : Vec Work Global) (left : List Caller) (env : Surroundings) (outer : Resumption) (s : State) →
+    Agrees env outer old s → old.callers.items ≡ left ++ caller.For work ∷ [] → new ≡ record old { callers = new.callers; pending = work } →
+    new.callers.items ≡ left → Continues (outer (operands_of old) s) (Ok None) new
+ends_turn old new work left env outer s agrees popped same rest =
+    let tree = old.tree.now in
+    let waits : Waits tree env old.activation outer (caller.For work ∷ reverse left) =
+    subst (λ (l : List Caller). Waits tree env old.activation outer l) (ap reverse popped ∙ reverse_push left (caller.For work)) agrees.waits in
+    let there = waits.0 in
+    let next = waits.1 in
+    let inner = within_for there waits.2 in
+    let is : env ≡ inner = waits.3 in
+    let seen : Sees inner.visible tree old.activation =
+    subst (λ (v : Environment). Sees v tree old.activation) (ap (λ (e : Surroundings). e.visible) is) agrees.visible in
+    let fields : Agrees there next (record old { callers = new.callers; pending = work }) s = record {
+      visible = record { variables = seen.variables; types = seen.types };
+      calls = sym (ap (λ (e : Surroundings). e.calls) is) ∙ agrees.calls;
+      waits = subst (λ (l : List Caller). Waits tree there old.activation next (reverse l)) (sym rest) waits.4;
+      deep = agrees.deep;
+      few = agrees.few;
+      store = agrees.store;
+      input = agrees.input;
+      output = agrees.output;
+      turns = agrees.turns;
+      activations = agrees.activations;
+      records = agrees.records ∙ ap (λ (e : Surroundings). e.records) is;
+    } in (
+      there,
+      next,
+      s,
+      subst (λ (r : Run). Agrees there next r s) (sym same) fields,
+      waits.5 (operands_of old) s ∙ ap (λ (r : Run). pending_of there next (reverse r.pending.items) (operands_of r) s) (sym same),
+    )
+
+-- a turn of a for begins, while what was pending waits
+pub agrees_within : (old new : Run) (work : Vec Work Global) (finished : ℕ) (env : Surroundings) (outer : Resumption) (s : State) →
+    Agrees env outer old s → work.items ≡ old.pending.items → new.callers.items ≡ old.callers.items ++ caller.For work ∷ [] →
+    new ≡ record old { callers = new.callers; pending = new.pending } →
+    Agrees (within_for env finished) (pending_of env outer (reverse old.pending.items)) new s
+agrees_within old new work finished env outer s agrees kept pushed same =
+    let tree = old.tree.now in
+    let there = within_for env finished in
+    let next = pending_of env outer (reverse old.pending.items) in
+    let fields : Agrees there next (record old { callers = new.callers; pending = new.pending }) s = record {
+      visible = record { variables = agrees.visible.variables; types = agrees.visible.types };
+      calls = agrees.calls;
+      waits = subst (λ (l : List Caller). Waits tree there old.activation next l)
+          (sym (ap reverse pushed ∙ reverse_push old.callers.items (caller.For work)))
+          (env, outer, finished, refl, agrees.waits, λ operands t. ap (λ (l : List Work). pending_of env outer (reverse l) operands t) (sym kept));
+      deep = agrees.deep;
+      few = agrees.few;
+      store = agrees.store;
+      input = agrees.input;
+      output = agrees.output;
+      turns = agrees.turns;
+      activations = agrees.activations;
+      records = agrees.records;
+    } in
+    subst (λ (r : Run). Agrees there next r s) (sym same) fields
 
 -- an access begins where the meaning has it
 pub starts_there : (env : Surroundings) (outer : Resumption) (run : Run) (s : State) (origin : Origin) → Agrees env outer run s →

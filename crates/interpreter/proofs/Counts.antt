@@ -14,7 +14,7 @@ use Rattle.meaning.specs.Counting.{has_values, next_value, value_behind}
 use Rattle.meaning.specs.Meaning.{Surroundings}
 use Rattle.meaning.specs.Store.{kept}
 use Rattle.meaning.specs.Effect.{State, Reply, Gives, Stops, Action, ◌>>=◌, and_then, give, stop, require, use_turn, another, looping, looped, is_in}
-use Rattle.meaning.specs.Meaning.{Execution, effect_of, for_round, for_between}
+use Rattle.meaning.specs.Meaning.{Execution, effect_of, for_round, for_between, for_turn}
 use Rattle.operations.specs.Answers.{both_bounds, bounds_tested, value_before}
 use Rattle.interpreter.specs.Pending.{counting}
 use Rattle.meaning.proofs.Replies.{and_then-same}
@@ -59,7 +59,7 @@ pub turn-given : {A : Type 0} (reply : Reply (Unit {0})) (body : Action (Unit {0
 turn-given (Gives done s) body a next = body-given (body s) a next
 turn-given (Stops e s) body a next = refl
 
-module _ (env : Surroundings) (head : ForHead) (last : ℤ) (body : Stmt) where
+module _ (env : Surroundings) (head : ForHead) (start last : ℤ) (body : Stmt) where
   -- the same rounds follow
   alike_behind : (n : ℤ) (s : State) (first second : ℤ → Action (Unit {0})) → Behind head.direction last n →
       ((m : ℤ) (t : State) → has_values head.direction m last ≡ true → first m t ≡ second m t) →
@@ -72,31 +72,31 @@ module _ (env : Surroundings) (head : ForHead) (last : ℤ) (body : Stmt) where
 
   alike_round : (n : ℤ) (s : State) (first second : ℤ → Action (Unit {0})) → has_values head.direction n last ≡ true →
       ((m : ℤ) (t : State) → has_values head.direction m last ≡ true → first m t ≡ second m t) →
-      and_then (for_round head last (effect_of body) env n s) (λ more. another more first) ≡
-      and_then (counting env head last body n s) (λ more. another more second)
+      and_then (for_round head start last (effect_of body) env n s) (λ more. another more first) ≡
+      and_then (counting env head start last body n s) (λ more. another more second)
   alike_round n s first second left same =
       let there : State = record s { store = kept s.store (env.visible.variables head.control) (Number n) } in
-      let inner = effect_of body env in
+      let inner = effect_of body (for_turn head start env n) in
       turn-given (use_turn there) inner (value_behind head.direction last n) (λ more. another more first)
       ∙ and_then-same (use_turn there) _ _ (λ _ t. and_then-same (inner t) _ _
       (λ _ u. alike_behind n u first second (behind head.direction last n left) same))
       ∙ sym (turn-given (use_turn there) inner (value_before head.direction last n) (λ more. another more second))
 
   alike_looping : (bound : ℕ) (n : ℤ) (s : State) → has_values head.direction n last ≡ true →
-      looping bound (for_round head last (effect_of body) env) n s ≡ looping bound (counting env head last body) n s
+      looping bound (for_round head start last (effect_of body) env) n s ≡ looping bound (counting env head start last body) n s
   alike_looping zero n s left = alike_round n s (λ b. stop ending.More) (λ b. stop ending.More) left (λ m t there. refl)
   alike_looping (suc bound) n s left =
-      alike_round n s (looping bound (for_round head last (effect_of body) env)) (looping bound (counting env head last body)) left
+      alike_round n s (looping bound (for_round head start last (effect_of body) env)) (looping bound (counting env head start last body)) left
       (λ m t there. alike_looping bound m t there)
 
 -- the rounds of a for from its tested bounds
 abbrev pub rounds_of : Surroundings → ForHead → Execution → Result (Option (ℤ × ℤ)) ℕ → Action (Unit {0})
 rounds_of env head body (Err site) = stop (ending.Error site)
 rounds_of env head body (Ok None) = give tt
-rounds_of env head body (Ok (Some bounds)) = looped (for_round head bounds.1 body env) bounds.0
+rounds_of env head body (Ok (Some bounds)) = looped (for_round head bounds.0 bounds.1 body env) bounds.0
 
 tested_rounds : (env : Surroundings) (head : ForHead) (body : Execution) (first last : ℤ) (one other : ℕ) (has fits fits_too : Bool) (s : State) →
-    (if has then (require fits one >>= λ _. require fits_too other >>= λ _. looped (for_round head last body env) first) else give tt) s ≡
+    (if has then (require fits one >>= λ _. require fits_too other >>= λ _. looped (for_round head first last body env) first) else give tt) s ≡
     rounds_of env head body (if has then both_bounds (if fits then Ok first else Err one) (if fits_too then Ok last else Err other) else Ok None) s
 tested_rounds env head body first last one other false fits fits_too s = refl
 tested_rounds env head body first last one other true false fits_too s = refl
@@ -138,5 +138,5 @@ bounds-leave head first last a b is =
 
 -- a for whose bounds leave values is the rounds that don't pass the last one
 pub looped-counting : (env : Surroundings) (head : ForHead) (first last : ℤ) (body : Stmt) (s : State) → has_values head.direction first last ≡ true →
-    looped (for_round head last (effect_of body) env) first s ≡ looped (counting env head last body) first s
-looped-counting env head first last body s left = alike_looping env head last body s.turns first s left
+    looped (for_round head first last (effect_of body) env) first s ≡ looped (counting env head first last body) first s
+looped-counting env head first last body s left = alike_looping env head first last body s.turns first s left

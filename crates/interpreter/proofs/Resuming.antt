@@ -191,6 +191,12 @@ passed P a b fits too holds =
     let other : to_z w32 (of_z w32 b) ≡ b = omega (arith, ints, too) in
     subst (λ n. P n b) one (subst (λ n. P (to_z w32 (of_z w32 a)) n) other holds)
 
+-- so it is of three
+pub passed_three : (P : ℤ → ℤ → ℤ → Type 0) (a b c : ℤ) → SFits w32 a → SFits w32 b → SFits w32 c
+    → P (to_z w32 (of_z w32 a)) (to_z w32 (of_z w32 b)) (to_z w32 (of_z w32 c)) → P a b c
+passed_three P a b c one other third holds =
+    passed (λ n m. P a b m) c c third third (passed (λ n m. P n m (to_z w32 (of_z w32 c))) a b one other holds)
+
 -- a value that was tested
 tested_answer : (b : Bool) (site : ℕ) (v : Value) (s : State) →
     (require b site >>= λ _. give v) s ≡ answered (ok_or (if b then Some v else None) site) s

@@ -61,12 +61,13 @@ use Rattle.meaning.specs.Effect.{fetch, fetch_all, store, store_all, undefine, w
 use Rattle.meaning.specs.Meaning.{begun, gathered, opened, operated_both, with_one, with_range, with_record}
 use Rattle.meaning.specs.Meaning.{Combination, Execution, effect_step, operated, in_turn, all_of}
 use Rattle.meaning.specs.Meaning.{compared, selected, whole_of, default_width, written_of, width_of, parameter_of}
-use Rattle.meaning.specs.Meaning.{line_ended, is_so, turn_if, for_between, arm_of}
+use Rattle.meaning.specs.Meaning.{line_ended, is_so, turn_if, for_between, for_turn, arm_of}
+use Rattle.meaning.specs.Counting.{values_before}
 use Rattle.meaning.specs.Meaning.{value_of, values_of, link_of, effect_of, Passing, all_passed, call_of, passing_of}
 use Rattle.operations.specs.Answers.{bounds_tested, positive, value_before}
 use Rattle.meaning.specs.Meaning.{Argument, OfValue, OfPlace, OfRow}
 use Rattle.interpreter.specs.Pending.{Resumption, pending_of, resumed, chosen, further, while_rounds, repeat_rounds, counting}
-use Rattle.interpreter.specs.Pending.{forgetting, turning, turning_tested, whiling, repeating, counting_on, line_ending, linking}
+use Rattle.interpreter.specs.Pending.{forgetting, turning_inside, turning_tested, whiling, repeating, counting_on, line_ending, linking}
 use Rattle.interpreter.specs.Pending.{giving, giving_number, giving_place, giving_row, with_top, with_row, top_of, top_place, top_row, below_top}
 use Rattle.interpreter.specs.Pending.{writing, writing_one, writing_row, placing, accessing, selecting, comparing}
 use Rattle.interpreter.specs.Pending.{constructing, gathering, opening}
@@ -354,22 +355,23 @@ does-bounds env outer head body works operands s result is =
     (between-tested env head (effect_of body) (number_of (top_of (below_top operands))) (number_of (top_of operands)) s
     ∙ ap (λ (r : Result (Option (ℤ × ℤ)) ℕ). rounds_of env head (effect_of body) r s) is)
 
-pub does-for-round : (env : Surroundings) (calls : ExtendedCalls env.calls) (head : Bor ForHead) (n last : ℤ) (body : Bor Stmt) (next : Resumption)
-    (operands : List Argument) (s : State) → counting_on env head.now n last body.now next operands s ≡
-    turning env (work.Statement body) (work.For head (Behind n last) body) next operands
+pub does-for-round : (env : Surroundings) (calls : ExtendedCalls env.calls) (head : Bor ForHead) (first n last : ℤ) (body : Bor Stmt) (next : Resumption)
+    (operands : List Argument) (s : State) → counting_on env head.now first n last body.now next operands s ≡
+    turning_inside env (values_before head.now.direction first n) body.now (work.For head (Behind first n last) body) next operands
     (record s { store = kept s.store (env.visible.variables head.now.control) (Number n) })
-does-for-round env calls head n last body next operands s =
+does-for-round env calls head first n last body next operands s =
     let control = head.now.control in
     let then_rest : Unit {0} → Action (Unit {0}) = λ _. forgetting (env.visible.variables control) next operands in
-    let each = counting env head.now last body.now in
+    let each = counting env head.now first last body.now in
+    let inner : ℤ → Action (Unit {0}) = λ m. effect_of body.now (for_turn head.now first env m) in
     let again : Option ℤ → Action (Unit {0}) = λ more. another more (looped each) in
     let there : State = record s { store = kept s.store (env.visible.variables control) (Number n) } in
     let behind = value_before head.now.direction last in
-    let uses = counted_uses control (effect_of body.now) env behind (extended_effect env calls body.now) in
+    let uses = counted_uses (env.visible.variables control) inner behind (λ m. extended_effect (for_turn head.now first env m) calls body.now) in
     ap (λ (r : Reply (Unit {0})). and_then r then_rest)
-    (looped-rounds each uses n s ∙ turn-given (use_turn there) (effect_of body.now env) (behind n) again)
-    ∙ and_then-and_then (use_turn there) (λ _. effect_of body.now env >>= λ _. again (behind n)) then_rest
-    ∙ and_then-same (use_turn there) _ _ (λ _ t. and_then-and_then (effect_of body.now env t) (λ _. again (behind n)) then_rest)
+    (looped-rounds each uses n s ∙ turn-given (use_turn there) (inner n) (behind n) again)
+    ∙ and_then-and_then (use_turn there) (λ _. inner n >>= λ _. again (behind n)) then_rest
+    ∙ and_then-same (use_turn there) _ _ (λ _ t. and_then-and_then (inner n t) (λ _. again (behind n)) then_rest)
 
 -- what is pending after the index of a case
 abbrev pub casing : Surroundings → Resumption → CaseHead → List Stmt → List Work → Resumption

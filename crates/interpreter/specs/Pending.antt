@@ -63,8 +63,8 @@ use Rattle.meaning.specs.Meaning.{opened, operated_both, with_one, with_range, w
 use Rattle.meaning.specs.Meaning.{place_passed, result_of, run_of}
 use Rattle.meaning.specs.Meaning.{default_width, link_of, selected, value_of, values_of, whole_of}
 use Rattle.meaning.specs.Meaning.{effect_of, all_of, width_of, parameter_of, line_ended, is_so, turn_if, while_round}
-use Rattle.meaning.specs.Meaning.{repeat_round, for_between, arm_of, asked, line_passed, read_as, read_of}
-use Rattle.meaning.specs.Meaning.{unless_outside}
+use Rattle.meaning.specs.Meaning.{repeat_round, for_between, for_turn, arm_of, asked, line_passed, read_as, read_of}
+use Rattle.meaning.specs.Meaning.{unless_outside, within_for}
 
 -- what is done with the operands, the topmost first, and the state
 abbrev pub Resumption : Type 0
@@ -176,12 +176,12 @@ while_rounds env head body = while_round (value_of head.condition) (effect_of bo
 abbrev pub repeat_rounds : Surroundings → LoopHead → List Stmt → Round (Unit {0})
 repeat_rounds env head statements = repeat_round (all_of (map effect_of statements)) (value_of head.condition) env
 
--- the rounds of a for with values that haven't passed the last one
-abbrev pub counting : Surroundings → ForHead → ℤ → Stmt → Round ℤ
-counting env head last body n = do
+-- the rounds of a for, by its first value, with values that haven't passed the last one
+abbrev pub counting : Surroundings → ForHead → ℤ → ℤ → Stmt → Round ℤ
+counting env head first last body n = do
   _ ← store (env.visible.variables head.control) (Number n)
   _ ← use_turn
-  _ ← effect_of body env
+  _ ← effect_of body (for_turn head first env n)
   give (value_before head.direction last n)
 
 -- a place is undefined from here, and then the rest
@@ -202,10 +202,10 @@ repeating env head statements next operands = do
   _ ← looped (repeat_rounds env head statements) tt
   next operands
 
--- a for from a value of its control variable on, and then the rest
-abbrev pub counting_on : Surroundings → ForHead → ℤ → ℤ → Stmt → Resumption → Resumption
-counting_on env head value last body next operands = do
-  _ ← looped (counting env head last body) value
+-- a for by its first value, from a value of its control variable on, and then the rest
+abbrev pub counting_on : Surroundings → ForHead → ℤ → ℤ → ℤ → Stmt → Resumption → Resumption
+counting_on env head first value last body next operands = do
+  _ ← looped (counting env head first last body) value
   forgetting (env.visible.variables head.control) next operands
 
 -- further rounds of a repeat, unless the topmost operand ends it, and then the rest
@@ -321,8 +321,8 @@ resumed env (work.For head Between body) next operands =
     >>= λ _. forgetting (env.visible.variables head.now.control) next below)
     rest)
     operands
-resumed env (work.For head (Behind value last) body) next operands = do
-  _ ← further (counting env head.now last body.now) (give (value_before head.now.direction last value))
+resumed env (work.For head (Behind first value last) body) next operands = do
+  _ ← further (counting env head.now first last body.now) (give (value_before head.now.direction last value))
   forgetting (env.visible.variables head.now.control) next operands
 resumed env (work.Case head arms) next operands =
     with_top
@@ -434,11 +434,12 @@ placing env access indexes =
 abbrev pub accessing : Surroundings → Access → List Expr → Work → Resumption → Resumption
 accessing env access indexes later next = placing env access indexes (resumed env later next)
 
--- two pieces of work in a turn, and then the rest
-abbrev pub turning : Surroundings → Work → Work → Resumption → Resumption
-turning env first second next operands = do
+-- the statement of a for in a turn behind so many, a piece of work, and then the rest
+abbrev pub turning_inside : Surroundings → ℕ → Stmt → Work → Resumption → Resumption
+turning_inside env finished body later next operands = do
   _ ← use_turn
-  resumed env first (resumed env second next) operands
+  _ ← effect_of body (within_for env finished)
+  resumed env later next operands
 
 -- a piece of work in a turn, a condition and a piece of work with it, and then the rest
 abbrev pub turning_tested : Surroundings → Work → Expr → Work → Resumption → Resumption
@@ -520,7 +521,8 @@ returning env activation living next operands = do
   next (OfValue v ∷ operands)
 
 -- what goes on behind the work in hand: the latest first, callers that wait for its activation, and what stands behind
--- the statement of a with, where there is a record less; behind the program's statement nothing is done
+-- the statement of a with, where there is a record less, or behind a turn of a for, where there is a for less; behind
+-- the program's statement nothing is done
 abbrev pub Waits : Tree → Surroundings → KeptActivation → Resumption → List Caller → Type 0
 Waits tree env activation outer [] = (operands : List Argument) (s : State) → outer operands s ≡ give tt s
 Waits tree env activation outer (caller.Call waiting pending ∷ callers) =
@@ -535,6 +537,12 @@ Waits tree env activation outer (caller.Call waiting pending ∷ callers) =
 Waits tree env activation outer (caller.With pending ∷ callers) =
     (there : Surroundings) × (behind : Resumption) × (place : Option Place)
     × (env ≡ with_record there place)
+    × Waits tree there activation behind callers
+    × ((operands : List Argument) (s : State) → outer operands s ≡
+    pending_of there behind (reverse pending.items) operands s)
+Waits tree env activation outer (caller.For pending ∷ callers) =
+    (there : Surroundings) × (behind : Resumption) × (finished : ℕ)
+    × (env ≡ within_for there finished)
     × Waits tree there activation behind callers
     × ((operands : List Argument) (s : State) → outer operands s ≡
     pending_of there behind (reverse pending.items) operands s)

@@ -188,6 +188,7 @@ works_size works = sum_by (λ piece. 1 + size_of piece) works
 abbrev pub caller_size : Caller → ℕ
 caller_size (caller.Call activation pending) = 1 + works_size pending.items
 caller_size (caller.With pending) = 1 + works_size pending.items
+caller_size (caller.For pending) = 1 + works_size pending.items
 
 -- all that a run has still to do before a turn is used
 abbrev pub pending_size : Run → ℕ

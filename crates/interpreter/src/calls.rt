@@ -179,8 +179,8 @@ impl<'t> Run<'t, '_> {
         }
     }
 
-    // The activation ends, and the one that called it goes on with its result; or the statement of a with ends, and
-    // what stands behind it follows.
+    // The activation ends, and the one that called it goes on with its result; or the statement of a with ends, or a
+    // turn of a for, and what stands behind it follows.
     pub(crate) fn leave(&mut self) -> Result<Option<Ending>, AllocError>
         ensures fewer { Shrinks self.old result self.new }
         ensures does { Leaves self.old result self.new }
@@ -202,6 +202,10 @@ impl<'t> Run<'t, '_> {
             }
             Some(Caller::With { pending }) => {
                 self.activation.close();
+                self.pending = pending;
+                Ok(None)
+            }
+            Some(Caller::For { pending }) => {
                 self.pending = pending;
                 Ok(None)
             }

@@ -1,7 +1,6 @@
 ghost use Rattle.std.specs.Prelude.{◌≡◌, ◌+◌, ◌<◌, IfOk, None, Ok};
 ghost use Rattle.meaning.specs.Meaning.{meaning};
-ghost use Rattle.interpreter.specs.Pending.{Advances, Does, Executes, Finishes, evaluating, resumed, turning};
-ghost use Rattle.interpreter.specs.Pending.{turning_tested};
+ghost use Rattle.interpreter.specs.Pending.{Advances, Does, Executes, Finishes, evaluating, resumed, turning_tested};
 ghost use Rattle.interpreter.specs.Size.{Adds, Lightens, Shrinks, size_of, size_of_expression};
 
 use interpreter_state::activation::Activation;
@@ -228,22 +227,6 @@ impl<'t> Run<'t, '_> {
     {
         put(&mut self.pending, later)?;
         self.plan(Work::Value(first), Work::Value(second))
-    }
-
-    // A turn, and what is done in it; with none left the run ends.
-    pub(crate) fn turn(
-        &mut self,
-        next: Work<'t>,
-        later: Work<'t>,
-    ) -> Result<Option<Ending>, AllocError>
-        ensures size { Adds 0 self.old result self.new }
-        ensures does { Does (λ env. turning env next.entry later.entry) self.old result self.new }
-    {
-        if self.turns == 0 {
-            return Ok(Some(Ending::More));
-        }
-        self.turns -= 1;
-        self.plan(next, later)
     }
 
     // A turn, a condition behind what is done in it, and what is done with that; with none left the run ends.

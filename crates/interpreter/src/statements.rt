@@ -1,7 +1,8 @@
-ghost use Rattle.std.specs.Prelude.{◌+◌};
+ghost use Rattle.std.specs.Prelude.{◌+◌, ℕ};
 ghost use Rattle.interpreter_state.specs.declared.work.Rounds.TheVariants.{Between, Behind};
 ghost use Rattle.interpreter.specs.Pending.{Does, assigning, assigning_row, counting_on, forgetting, line_ending};
-ghost use Rattle.interpreter.specs.Pending.{performing, repeating, resumed, whiling, writing, writing_one, writing_row};
+ghost use Rattle.interpreter.specs.Pending.{performing, repeating, resumed, turning_inside, whiling, writing};
+ghost use Rattle.interpreter.specs.Pending.{writing_one, writing_row};
 ghost use Rattle.interpreter.specs.Size.{Adds, Lightens, size_of_assignment, size_of_copying, size_of_expression};
 ghost use Rattle.interpreter.specs.Size.{size_of_parameter, size_of_procedure, size_of_whole, size_of_width};
 
@@ -208,7 +209,9 @@ impl<'t> Run<'t, '_> {
     {
         match rounds {
             Rounds::Between => self.bounds(head, body),
-            Rounds::Behind { value, last } => self.next_round(head, value, last, body),
+            Rounds::Behind { first, value, last } => {
+                self.next_round(head, first, value, last, body)
+            }
         }
     }
 
@@ -220,49 +223,67 @@ impl<'t> Run<'t, '_> {
         let last = self.popped_number();
         let first = self.popped_number();
         match tested_bounds(head, first, last) {
-            Ok(Some((value, last))) => self.for_round(head, value, last, body),
+            Ok(Some((value, last))) => self.for_round(head, value, value, last, body),
             Ok(None) => self.forget(head.control),
             Err(site) => Ok(Some(Ending::Error(site))),
         }
     }
 
-    // The rounds of a for, from a value of its control variable on.
+    // The rounds of a for with this first value, from a value of its control variable on.
     fn for_round(
         &mut self,
         head: &'t ForHead,
+        first: i32,
         value: i32,
         last: i32,
         body: &'t Stmt,
     ) -> Result<Option<Ending>, AllocError>
         ensures size { Adds 0 self.old result self.new }
-        ensures does { Does (λ env. counting_on env head.now value last body.now) self.old result self.new }
+        ensures does { Does (λ env. counting_on env head.now first value last body.now) self.old result self.new }
     {
         let place = self.place(head.control)?;
         self.keep(place, Value::Number(Ordinal::new(value)))?;
-        self.turn(
-            Work::Statement(body),
+        self.for_turn(
+            body,
             Work::For {
                 head,
-                rounds: Rounds::Behind { value, last },
+                rounds: Rounds::Behind { first, value, last },
                 body,
             },
         )
+    }
+
+    // A turn of a for, while what stands behind it waits; with none left the run ends.
+    fn for_turn(&mut self, body: &'t Stmt, later: Work<'t>) -> Result<Option<Ending>, AllocError>
+        ensures size { Adds 0 self.old result self.new }
+        ensures does { (finished : ℕ) → Does (λ env. turning_inside env finished body.now later.entry)
+            self.old result self.new }
+    {
+        if self.turns == 0 {
+            return Ok(Some(Ending::More));
+        }
+        self.turns -= 1;
+        put(&mut self.pending, later)?;
+        let pending = mem::replace(&mut self.pending, Vec::new(self.alloc));
+        self.callers.push(Caller::For { pending })?;
+        self.do_next(Work::Statement(body))
     }
 
     // The rounds of a for behind that with a value of its control variable.
     fn next_round(
         &mut self,
         head: &'t ForHead,
+        first: i32,
         value: i32,
         last: i32,
         body: &'t Stmt,
     ) -> Result<Option<Ending>, AllocError>
-        ensures fewer { Lightens (Work.For head.entry (Behind value last) body.entry) self.old result self.new }
-        ensures does { Does (λ env. resumed env (Work.For head.entry (Behind value last) body.entry))
+        ensures fewer { Lightens (Work.For head.entry (Behind first value last) body.entry) self.old result self.new }
+        ensures does { Does (λ env. resumed env (Work.For head.entry (Behind first value last) body.entry))
             self.old result self.new }
     {
         match value_toward(head.direction, last, value) {
-            Some(value) => self.for_round(head, value, last, body),
+            Some(value) => self.for_round(head, first, value, last, body),
             None => self.forget(head.control),
         }
     }

@@ -151,8 +151,8 @@ pub enum Work<'t> {
 pub enum Rounds {
     /// Those between the bounds, which are topmost, the last above the first.
     Between,
-    /// Those behind that with a value of the control variable.
-    Behind { value: i32, last: i32 },
+    /// Those behind that with a value of the control variable, whose first value was this.
+    Behind { first: i32, value: i32, last: i32 },
 }
 
 /// What waits for the work in hand, with the work that is left in it, the next on top.
@@ -165,6 +165,10 @@ pub enum Caller<'t> {
     },
     /// What stands behind a statement of a with, in the same activation.
     With {
+        pending: Vec<Work<'t>>,
+    },
+    /// What stands behind a turn of a for, in the same activation.
+    For {
         pending: Vec<Work<'t>>,
     },
 }

@@ -1,4 +1,5 @@
 use domain::Domain;
+use domain::growth::Growth;
 use domain::hull::Hull;
 use domain::interval::Interval;
 use std::alloc::{AllocError, Global};
@@ -134,6 +135,25 @@ fn ends(hull: &Hull) -> (i64, i64) {
     (hull.range().first(), hull.range().last())
 }
 
+// What a sum of 1 to 100 is behind some of its turns: each adds 1 to 100.
+const SUM: Growth = Growth {
+    first: 0,
+    first_step: 1,
+    last: 0,
+    last_step: 100,
+};
+
+#[test]
+fn tells_growths(rt: HostRuntime) {
+    let added = Interval::between(1, 100);
+    let reached = SUM.reach(100);
+    assert!(rt; reached.first() == 0 && reached.last() == 10_000);
+    assert!(rt; matches!(SUM.stepped(&added), Some(more) if more.is_within_next(&SUM)));
+    assert!(rt; !SUM.is_within_next(&SUM));
+    assert!(rt; SUM.stepped(&Interval::between(0, 2_147_483_647)).is_some());
+    assert!(rt; SUM.stepped(&added.add(&Interval::INTEGER)).is_none());
+}
+
 #[test]
 fn tells_hulls_of_sets(rt: HostRuntime) {
     let digits = Hull::of(&Interval::between(-1, 9));
@@ -155,4 +175,5 @@ fn is_a_domain(rt: HostRuntime) {
     assert!(rt; least_both(&Interval::between(1, 9), &Interval::INTEGER));
     let digits = Hull::of(&Interval::between(0, 9));
     assert!(rt; least_both(&digits, &Hull::of(&Interval::MEMBERS)));
+    assert!(rt; least_both(&SUM, &Growth { first: -1, ..SUM }));
 }

@@ -38,7 +38,7 @@ use Rattle.types.specs.declared.form.Step.{Step}
 use Rattle.types.specs.declared.form.Step.TheVariants.{Element, Field}
 use Rattle.meaning.specs.Store.{Place, stored, written, undefined, overlap}
 use Rattle.meaning.specs.Integers.{is_integer_number}
-use Rattle.meaning.specs.Effect.{State, Reply, Gives, Stops, Action, Round, looped, ◌>>=◌, and_then, give, stop, enter, fetch, store, undefine, require}
+use Rattle.meaning.specs.Effect.{State, Visit, Reply, Gives, Stops, Action, Round, looped, ◌>>=◌, and_then, give, stop, enter, fetch, store, undefine, require}
 use Rattle.meaning.specs.Effect.{number_of, use_turn}
 use Rattle.meaning.specs.Effect.{fetch_all, store_all, write, is_in, is_positive, places, boolean_text, char_text, row_text, text_of}
 use Rattle.meaning.specs.Meaning.{Evaluation, Combination, Execution, effect_step, is_so, alternative_of, combined, while_round, repeat_round, for_between}
@@ -46,7 +46,7 @@ use Rattle.meaning.specs.Meaning.{selected, arm_of, Meaning, ended, link_step, i
 use Rattle.meaning.specs.Meaning.{value_of, compared, order_of, default_width, width_of, written_of, completed, first_state}
 use Rattle.meaning.specs.Meaning.{Surroundings, OfValue, OfPlace, Activation, seen_from, own_place}
 use Rattle.meaning.specs.Meaning.{begun, gathered}
-use Rattle.meaning.specs.Laws.{Extends}
+use Rattle.meaning.specs.Laws.{Extends, state_after}
 
 abbrev place : ℕ → List Step → Place
 place root steps = record { activation = 0; variable = root; steps = steps }
@@ -128,7 +128,7 @@ no_line = refl
 
 -- where no variable is visible and nothing can be called
 nowhere : Surroundings
-nowhere = record { visible = record { variables = λ root. None; types = [] }; records = []; calls = λ number arguments caller. stop More }
+nowhere = record { visible = record { variables = λ root. None; types = []; turns = [] }; records = []; calls = λ number arguments caller. stop More }
 
 -- an activation of the routine of block 3, in the block 2 of the program's; its two parameters have the roots 5 and 6, and
 -- it is called with a value and with the place of root 8, where root 1 lies in the program's activation
@@ -139,7 +139,7 @@ module _ (heading : Heading) (around : heading.around.items ≡ 0 ∷ 2 ∷ []) 
     block = 3;
     heading = heading;
     arguments = OfValue (Number (pos 1)) ∷ OfPlace (Some (place 8 [])) ∷ [];
-    caller = record { variables = λ root. Some (place root []); types = [] };
+    caller = record { variables = λ root. Some (place root []); types = []; turns = [] };
   }
 
   abbrev lies : ℕ → VariableKind → ℕ → Option Place
@@ -439,7 +439,7 @@ repeat_wants_more = refl
 -- where each variable lies at the same place
 everywhere : Surroundings
 everywhere = record {
-  visible = record { variables = λ root. Some (place 0 []); types = [] };
+  visible = record { variables = λ root. Some (place 0 []); types = []; turns = [] };
   records = [];
   calls = λ number arguments caller. stop More;
 }
@@ -524,6 +524,25 @@ module _ (some : ForHead) where
       record { output = []; ending = Error 7 }
   unfolding everywhere
   undefined_all_the_same = refl
+
+-- the entry with the number 5
+abbrev entered_once : Execution
+entered_once environment = enter 5 environment.visible
+
+module _ (some : ForHead) where
+  -- what the entries of the statement of such a for tell of finished turns, where the visits before are left out
+  abbrev turns_told : Direction → ℤ → ℤ → List (List ℕ)
+  turns_told direction first last =
+      map (λ (visit : Visit). visit.environment.turns)
+      (state_after (for_between (counting some integers direction) entered_once everywhere first last (first_state [] 9))).visited
+
+  told_upward : turns_told To (negsuc 0) (pos 1) ≡ (0 ∷ []) ∷ (1 ∷ []) ∷ (2 ∷ []) ∷ []
+  unfolding everywhere
+  told_upward = refl
+
+  told_downward : turns_told DownTo (pos 1) (pos 0) ≡ (0 ∷ []) ∷ (1 ∷ []) ∷ []
+  unfolding everywhere
+  told_downward = refl
 
 -- a case whose arms write a number each, 1 before the constants 1 and 2, and 2 before the constants 2 and -1, at the site 7
 abbrev writes : ℕ → Execution

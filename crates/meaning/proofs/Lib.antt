@@ -1,5 +1,6 @@
 pub mod Depths
 mod Examples
+mod FinishedTurns
 pub mod Expressions
 mod LeftToRight
 pub mod KindsTypes

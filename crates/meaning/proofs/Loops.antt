@@ -6,8 +6,9 @@ use Rattle.meaning.specs.declared.outcome.Ending.TheVariants.{More}
 use Rattle.meaning.specs.declared.store.Value.{Value}
 use Rattle.meaning.specs.declared.store.Value.TheVariants.{Number}
 use Rattle.meaning.specs.Effect.{State, Reply, Gives, Stops, Action, Round, ◌>>=◌, and_then, give, stop, take_turn, use_turn, another, looping, looped, store}
-use Rattle.meaning.specs.Meaning.{Surroundings, Evaluation, Execution, is_so, turn_if, while_round, repeat_round, for_round}
+use Rattle.meaning.specs.Meaning.{Surroundings, Evaluation, Execution, is_so, turn_if, while_round, repeat_round, for_round, for_turn}
 use Rattle.meaning.specs.Counting.{value_behind}
+use Rattle.meaning.specs.Store.{Place}
 use Rattle.meaning.specs.Laws.{state_after}
 use Rattle.meaning.proofs.Turns.{Extended, extended_then, extended_give}
 
@@ -110,15 +111,17 @@ repeat_uses body condition env done tested =
     }
 
 -- a control variable gets a value, and then comes a turn
-pub counted_uses : (control : ℕ) (body : Execution) (env : Surroundings) (behind : ℤ → Option ℤ) → Extended (body env) →
-    UsesTurns (λ n. store (env.visible.variables control) (Number n) >>= λ _. use_turn >>= λ _. body env >>= λ _. give (behind n))
-counted_uses control body env behind done =
+pub counted_uses : (place : Option Place) (body : ℤ → Action (Unit {0})) (behind : ℤ → Option ℤ) → ((n : ℤ) → Extended (body n)) →
+    UsesTurns (λ n. store place (Number n) >>= λ _. use_turn >>= λ _. body n >>= λ _. give (behind n))
+counted_uses place body behind done =
     let next : ℤ → Action (Option ℤ) = λ n. give (behind n) in
     record {
-      spent = λ n s. spent_then (store (env.visible.variables control) (Number n) s) (λ _. use_turn >>= λ _. body env >>= λ _. next n) s.turns (omega arith)
-          (λ _ t. spent_turn (body env >>= λ _. next n) t (extended_then (body env) (λ _. next n) done (λ _. extended_give (behind n))));
+      spent = λ n s. spent_then (store place (Number n) s) (λ _. use_turn >>= λ _. body n >>= λ _. next n) s.turns (omega arith)
+          (λ _ t. spent_turn (body n >>= λ _. next n) t (extended_then (body n) (λ _. next n) (done n) (λ _. extended_give (behind n))));
     }
 
 -- each turn of a for is used
-pub for_uses : (head : ForHead) (last : ℤ) (body : Execution) (env : Surroundings) → Extended (body env) → UsesTurns (for_round head last body env)
-for_uses head last body env done = counted_uses head.control body env (value_behind head.direction last) done
+pub for_uses : (head : ForHead) (first last : ℤ) (body : Execution) (env : Surroundings) → ((n : ℤ) → Extended (body (for_turn head first env n))) →
+    UsesTurns (for_round head first last body env)
+for_uses head first last body env done =
+    counted_uses (env.visible.variables head.control) (λ n. body (for_turn head first env n)) (value_behind head.direction last) done

@@ -1,6 +1,6 @@
 -- Laws of every piece of a program, wherever it stands.
 use Rattle.meaning.specs.Laws.{PiecesUseTurnsExactly, LoopsGoRoundByRound, standing}
-use Rattle.meaning.specs.Meaning.{effect_of, value_of, all_of}
+use Rattle.meaning.specs.Meaning.{effect_of, value_of, all_of, for_turn}
 use Rattle.meaning.proofs.Loops.{looped-rounds, for_uses, repeat_uses, while_uses}
 use Rattle.meaning.proofs.Used.{Exact, exact_calls, exact_closed, exact_turn}
 use Rattle.meaning.proofs.Walks.{of_assign_all, of_called, of_combined, of_effect, of_for_rounds, of_passing, of_require, of_statements, of_value}
@@ -31,8 +31,7 @@ pieces_use_turns tree depth visible records =
       records = λ with. (of_opened Exact exact_closed visible calls calls exact with records).1;
       statements = λ statement. (of_effect Exact exact_closed visible calls calls exact statement records).1;
       counted = λ head body first last.
-          (of_for_rounds Exact exact_closed visible calls calls exact head (effect_of body) records
-          (of_effect Exact exact_closed visible calls calls exact body records) first last).1;
+          (of_for_rounds Exact exact_closed visible calls calls exact head body records first last).1;
     }
 
 pub loops_go_round : LoopsGoRoundByRound
@@ -46,6 +45,6 @@ loops_go_round tree depth visible records =
       repeats = λ statements condition. looped-rounds _ (repeat_uses (all_of (map effect_of statements)) (value_of condition) env
           (of_statements Exact exact_closed visible calls calls exact statements records).0
           (of_value Exact exact_closed visible calls calls exact condition records).0);
-      fors = λ head last body. looped-rounds _ (for_uses head last (effect_of body) env
-          (of_effect Exact exact_closed visible calls calls exact body records).0);
+      fors = λ head first last body. looped-rounds _ (for_uses head first last (effect_of body) env
+          (λ n. (of_effect Exact exact_closed (for_turn head first env n).visible calls calls exact body records).0));
     }

@@ -178,7 +178,7 @@ exact_turn_if true body done = exact_then use_turn _ exact_turn (λ _. exact_the
 
 -- where nothing is visible and nothing can be called
 nowhere : Surroundings
-nowhere = record { visible = record { variables = λ root. None; types = [] }; records = []; calls = λ number arguments caller. stop ending.More }
+nowhere = record { visible = record { variables = λ root. None; types = []; turns = [] }; records = []; calls = λ number arguments caller. stop ending.More }
 
 exact_while : (condition : Action Value) (body : Action (Unit {0})) → Exact Value condition condition → Exact (Unit {0}) body body
     → UsesTurnsExactly (looped (while_again condition body) tt)
@@ -193,13 +193,13 @@ exact_repeat body condition done tested =
     (λ start. exact_then use_turn _ exact_turn
     (λ _. exact_then body _ done.1 (λ _. exact_then condition _ tested.1 (λ v. exact_give (if is_so v then None else Some tt))))) tt
 
-exact_for : (place : Option Place) (direction : Direction) (last : ℤ) (body : Action (Unit {0})) → Exact (Unit {0}) body body → (first : ℤ)
+exact_for : (place : Option Place) (direction : Direction) (last : ℤ) (body : ℤ → Action (Unit {0})) → ((n : ℤ) → Exact (Unit {0}) (body n) (body n))
+    → (first : ℤ)
     → UsesTurnsExactly (looped (for_again place direction last body) first)
 exact_for place direction last body done first =
-    let lies : Surroundings = record { visible = record { variables = λ root. place; types = [] }; records = []; calls = nowhere.calls } in
-    exact_looped (for_again place direction last body) (counted_uses 0 (λ env. body) lies (value_behind direction last) done.0)
+    exact_looped (for_again place direction last body) (counted_uses place body (value_behind direction last) (λ n. (done n).0))
     (λ n. exact_then (store place (Number n)) _ (exact_plain (store place (Number n)) (λ s. refl) (λ s left. refl))
-    (λ _. exact_then use_turn _ exact_turn (λ _. exact_then body _ done.1 (λ _. exact_give (value_behind direction last n))))) first
+    (λ _. exact_then use_turn _ exact_turn (λ _. exact_then (body n) _ (done n).1 (λ _. exact_give (value_behind direction last n))))) first
 
 pub exact_closed : Closed Exact
 exact_closed = record {
@@ -226,7 +226,7 @@ exact_closed = record {
   repeats = λ body other condition test done tested.
       (extended_closed.repeats body body condition condition done.0 tested.0, exact_repeat body condition done tested);
   fors = λ place direction last body other done first.
-      (extended_closed.fors place direction last body body done.0 first, exact_for place direction last body done first);
+      (extended_closed.fors place direction last body body (λ n. (done n).0) first, exact_for place direction last body done first);
 }
 
 -- what calls do, uses its turns exactly

@@ -3,7 +3,7 @@
 use Rattle.std.specs.Prelude.{int_le, not, if◌then◌else◌}
 use Rattle.std.specs.Ordering.{int_eq}
 use Rattle.std.proofs.Common.{◌≡◌, ℕ, ℤ, pos, List, [], ◌∷◌, ◌++◌, Bool, true, false, Option, Some, None, Vec, Global, map, slice_get}
-use Rattle.std.proofs.Common.{sym, ◌∙◌, ap, subst, refl}
+use Rattle.std.proofs.Common.{append_assoc, sym, ◌∙◌, ap, subst, refl}
 use Rattle.types.specs.Forms.{Form}
 use Rattle.types.specs.declared.form.Step.{Step}
 use Rattle.types.specs.declared.form.Step.TheVariants as step
@@ -51,15 +51,15 @@ use Rattle.meaning.specs.declared.outcome.Ending.TheVariants as ending
 use Rattle.meaning.specs.declared.store.Value.{Value}
 use Rattle.meaning.specs.declared.store.Value.TheVariants.{Number, Members}
 use Rattle.meaning.specs.Integers.{is_integer_number}
-use Rattle.meaning.specs.Store.{Environment, Place, part}
-use Rattle.meaning.specs.Counting.{has_values, value_behind}
+use Rattle.meaning.specs.Store.{Environment, Place, inside_for, part}
+use Rattle.meaning.specs.Counting.{has_values, value_behind, values_before}
 use Rattle.meaning.specs.Effect.{Action, Round, ◌>>=◌, give, stop, require, enter, use_turn, looped, fetch, fetch_all, store, store_all, undefine, write}
 use Rattle.meaning.specs.Effect.{is_in, is_positive, number_of, row_text, text_of}
 use Rattle.meaning.specs.Meaning.{Argument, OfValue, OfRow, OfPlace, Calls, Surroundings, Evaluation, Passing, Combination, Execution}
 use Rattle.meaning.specs.Meaning.{value_step, passed_step, link_step, effect_step, operated, combined, in_turn, all_of, all_passed, call_of}
 use Rattle.meaning.specs.Meaning.{calculated, divides, of_both, overflow_of, overflow_of_both, shifted, unless_overflow}
 use Rattle.meaning.specs.Meaning.{compared, selected, accessed, whole_of, values_of, default_width, width_of, written_of, parameter_of}
-use Rattle.meaning.specs.Meaning.{line_ended, is_so, turn_if, for_rounds, for_between, is_among, arm_of}
+use Rattle.meaning.specs.Meaning.{line_ended, is_so, turn_if, for_rounds, for_between, for_turn, is_among, arm_of}
 use Rattle.meaning.specs.Meaning.{begun, gathered, opened, operated_both, with_one, with_range}
 use Rattle.meaning.specs.Meaning.{value_of, passing_of, link_of, effect_of, assign, assign_all, result_of, Activation, environment_of, executed}
 use Rattle.meaning.specs.Meaning.{asked, line_passed, read_as, read_of, unless_outside}
@@ -75,12 +75,16 @@ use Rattle.typed_tree.specs.declared.tree.Readable.TheVariants as readable
 use Rattle.typed_tree.specs.declared.tree.InputTest.{InputTest}
 use Rattle.typed_tree.specs.declared.tree.InputTest.TheVariants as input_test
 
--- a relation of what actions do that holds of those of which pieces are made, and of one after the other
-pub record OfActions (R : (A : Type 0) → Action A → Action A → Type 0) : Type 1 where
+-- an environment behind more finished turns, those of for statements round all that it tells of
+abbrev pub behind : List ℕ → Environment → Environment
+behind outer visible = record visible { turns = outer ++ visible.turns }
+
+-- a relation of what actions do that holds of those of which pieces are made, and of one after the other, the second behind more finished turns
+pub record OfActionsBehind (outer : List ℕ) (R : (A : Type 0) → Action A → Action A → Type 0) : Type 1 where
   pub follows : {A B : Type 0} (a b : Action A) (f g : A → Action B) → R A a b → ((x : A) → R B (f x) (g x)) → R B (a >>= f) (b >>= g)
   pub gives : {A : Type 0} (a : A) → R A (give a) (give a)
   pub errs : {A : Type 0} (site : ℕ) → R A (stop (ending.Error site)) (stop (ending.Error site))
-  pub enters : (number : ℕ) (visible : Environment) → R (Unit {0}) (enter number visible) (enter number visible)
+  pub enters : (number : ℕ) (visible : Environment) → R (Unit {0}) (enter number visible) (enter number (behind outer visible))
   pub fetches : (place : Option Place) (site : ℕ) → R Value (fetch place site) (fetch place site)
   pub stores : (place : Option Place) (v : Value) → R (Unit {0}) (store place v) (store place v)
   pub undefines : (place : Option Place) → R (Unit {0}) (undefine place) (undefine place)
@@ -90,6 +94,10 @@ pub record OfActions (R : (A : Type 0) → Action A → Action A → Type 0) : T
   pub asks : R Bool at_end at_end
   pub refuses : {A : Type 0} (point : ℕ) (why : InputFault) → R A (stop (ending.Input point why)) (stop (ending.Input point why))
 
+-- so it is behind none
+abbrev pub OfActions : (R : (A : Type 0) → Action A → Action A → Type 0) → Type 1
+OfActions R = OfActionsBehind [] R
+
 -- rounds of loops, of what they are made of
 abbrev pub while_again : Action Value → Action (Unit {0}) → Round (Unit {0})
 while_again condition body start = condition >>= λ v. turn_if (is_so v) body
@@ -97,15 +105,15 @@ while_again condition body start = condition >>= λ v. turn_if (is_so v) body
 abbrev pub repeat_again : Action (Unit {0}) → Action Value → Round (Unit {0})
 repeat_again body condition start = use_turn >>= λ _. body >>= λ _. condition >>= λ v. give (if is_so v then None else Some tt)
 
-abbrev pub for_again : Option Place → Direction → ℤ → Action (Unit {0}) → Round ℤ
-for_again place direction last body n = store place (Number n) >>= λ _. use_turn >>= λ _. body >>= λ _. give (value_behind direction last n)
+abbrev pub for_again : Option Place → Direction → ℤ → (ℤ → Action (Unit {0})) → Round ℤ
+for_again place direction last body n = store place (Number n) >>= λ _. use_turn >>= λ _. body n >>= λ _. give (value_behind direction last n)
 
 -- a relation that goes from the actions of which pieces are made to whole pieces
-pub record Closed (R : (A : Type 0) → Action A → Action A → Type 0) : Type 1 where
+pub record ClosedBehind (outer : List ℕ) (R : (A : Type 0) → Action A → Action A → Type 0) : Type 1 where
   pub follows : {A B : Type 0} (a b : Action A) (f g : A → Action B) → R A a b → ((x : A) → R B (f x) (g x)) → R B (a >>= f) (b >>= g)
   pub gives : {A : Type 0} (a : A) → R A (give a) (give a)
   pub errs : {A : Type 0} (site : ℕ) → R A (stop (ending.Error site)) (stop (ending.Error site))
-  pub enters : (number : ℕ) (visible : Environment) → R (Unit {0}) (enter number visible) (enter number visible)
+  pub enters : (number : ℕ) (visible : Environment) → R (Unit {0}) (enter number visible) (enter number (behind outer visible))
   pub fetches : (place : Option Place) (site : ℕ) → R Value (fetch place site) (fetch place site)
   pub stores : (place : Option Place) (v : Value) → R (Unit {0}) (store place v) (store place v)
   pub undefines : (place : Option Place) → R (Unit {0}) (undefine place) (undefine place)
@@ -118,20 +126,24 @@ pub record Closed (R : (A : Type 0) → Action A → Action A → Type 0) : Type
       → R (Unit {0}) (looped (while_again condition body) tt) (looped (while_again test other) tt)
   pub repeats : (body other : Action (Unit {0})) (condition test : Action Value) → R (Unit {0}) body other → R Value condition test
       → R (Unit {0}) (looped (repeat_again body condition) tt) (looped (repeat_again other test) tt)
-  pub fors : (place : Option Place) (direction : Direction) (last : ℤ) (body other : Action (Unit {0})) → R (Unit {0}) body other → (first : ℤ)
+  pub fors : (place : Option Place) (direction : Direction) (last : ℤ) (body other : ℤ → Action (Unit {0}))
+      → ((n : ℤ) → R (Unit {0}) (body n) (other n)) → (first : ℤ)
       → R (Unit {0}) (looped (for_again place direction last body) first) (looped (for_again place direction last other) first)
 
+abbrev pub Closed : (R : (A : Type 0) → Action A → Action A → Type 0) → Type 1
+Closed R = ClosedBehind [] R
+
 -- one that goes from the rounds of a loop to the loop is such a relation
-module _ (R : (A : Type 0) → Action A → Action A → Type 0) (actions : OfActions R) where
+module _ (outer : List ℕ) (R : (A : Type 0) → Action A → Action A → Type 0) (actions : OfActionsBehind outer R) where
   turn_if_related : (so : Bool) (body other : Action (Unit {0})) → R (Unit {0}) body other → R (Option (Unit {0})) (turn_if so body) (turn_if so other)
   turn_if_related false body other done = actions.gives None
   turn_if_related true body other done =
       actions.follows _ _ _ _ actions.turns (λ _. actions.follows _ _ _ _ done (λ _. actions.gives (Some tt)))
 
-  pub closed_by_rounds :
+  pub closed_behind :
       ((A : Type 0) (round other : Round A) → ((a : A) → R (Option A) (round a) (other a)) → (a : A) → R (Unit {0}) (looped round a) (looped other a))
-      → Closed R
-  closed_by_rounds loops = record {
+      → ClosedBehind outer R
+  closed_behind loops = record {
     follows = λ a b f g one each. actions.follows a b f g one each;
     gives = actions.gives;
     errs = actions.errs;
@@ -154,10 +166,15 @@ module _ (R : (A : Type 0) → Action A → Action A → Type 0) (actions : OfAc
     fors = λ place direction last body other done first.
         loops ℤ (for_again place direction last body) (for_again place direction last other)
         (λ n. actions.follows _ _ _ _ (actions.stores place (Number n))
-        (λ _. actions.follows _ _ _ _ actions.turns (λ _. actions.follows _ _ _ _ done (λ _. actions.gives (value_behind direction last n))))) first;
+        (λ _. actions.follows _ _ _ _ actions.turns (λ _. actions.follows _ _ _ _ (done n) (λ _. actions.gives (value_behind direction last n))))) first;
   }
 
-module _ (R : (A : Type 0) → Action A → Action A → Type 0) (closed : Closed R) where
+pub closed_by_rounds : (R : (A : Type 0) → Action A → Action A → Type 0) → OfActions R
+    → ((A : Type 0) (round other : Round A) → ((a : A) → R (Option A) (round a) (other a)) → (a : A) → R (Unit {0}) (looped round a) (looped other a))
+    → Closed R
+closed_by_rounds R actions = closed_behind [] R actions
+
+module _ {outer : List ℕ} (R : (A : Type 0) → Action A → Action A → Type 0) (closed : ClosedBehind outer R) where
   -- ---- what doesn't depend on calls
 
   pub of_require : (b : Bool) (site : ℕ) → R (Unit {0}) (require b site) (require b site)
@@ -288,25 +305,25 @@ module _ (R : (A : Type 0) → Action A → Action A → Type 0) (closed : Close
   -- what calls do is related
   abbrev pub RelatedCalls : Calls → Calls → Type 0
   RelatedCalls calls others =
-      (number : ℕ) (arguments : List Argument) (caller : Environment) → R Value (calls number arguments caller) (others number arguments caller)
+      (number : ℕ) (arguments : List Argument) (caller : Environment) → R Value (calls number arguments caller) (others number arguments (behind outer caller))
 
   -- ---- pieces that stand where these calls are done, or those
 
   module _ (visible : Environment) (calls others : Calls) (related : RelatedCalls calls others) where
-    abbrev here : List (Option Place) → Surroundings
-    here records = record { visible = visible; records = records; calls = calls }
+    abbrev around : List (Option Place) → Surroundings
+    around records = record { visible = visible; records = records; calls = calls }
 
-    abbrev there : List (Option Place) → Surroundings
-    there records = record { visible = visible; records = records; calls = others }
+    abbrev around_too : List (Option Place) → Surroundings
+    around_too records = record { visible = behind outer visible; records = records; calls = others }
 
     abbrev IsRelated : Expr → Type 0
-    IsRelated e = (records : List (Option Place)) → R Value (value_of e (here records)) (value_of e (there records))
+    IsRelated e = (records : List (Option Place)) → R Value (value_of e (around records)) (value_of e (around_too records))
 
     abbrev IsRelatedPassed : Passed → Type 0
-    IsRelatedPassed p = (records : List (Option Place)) → R Argument (passing_of p (here records)) (passing_of p (there records))
+    IsRelatedPassed p = (records : List (Option Place)) → R Argument (passing_of p (around records)) (passing_of p (around_too records))
 
     abbrev IsRelatedLink : Link → Type 0
-    IsRelatedLink l = (records : List (Option Place)) (v : Value) → R Value (link_of l (here records) v) (link_of l (there records) v)
+    IsRelatedLink l = (records : List (Option Place)) (v : Value) → R Value (link_of l (around records) v) (link_of l (around_too records) v)
 
     abbrev RelatedExpr : Type 0
     RelatedExpr = (e : Expr) × IsRelated e
@@ -318,19 +335,19 @@ module _ (R : (A : Type 0) → Action A → Action A → Type 0) (closed : Close
     RelatedLink = (l : Link) × IsRelatedLink l
 
     -- an access begins at the same place
-    begun_same : (origin : Origin) (records : List (Option Place)) → begun origin (here records) ≡ begun origin (there records)
+    begun_same : (origin : Origin) (records : List (Option Place)) → begun origin (around records) ≡ begun origin (around_too records)
     begun_same (AtVariable root) records = refl
     begun_same (AtRecord root slot path) records = refl
 
     pub of_in_turn : (links : List RelatedLink) (records : List (Option Place)) (v : Value)
-        → R Value (in_turn (map link_of (map (λ l. l.0) links)) (here records) v) (in_turn (map link_of (map (λ l. l.0) links)) (there records) v)
+        → R Value (in_turn (map link_of (map (λ l. l.0) links)) (around records) v) (in_turn (map link_of (map (λ l. l.0) links)) (around_too records) v)
     of_in_turn [] records v = closed.gives v
     of_in_turn (link ∷ links) records v = closed.follows _ _ _ _ (link.1 records v) (λ w. of_in_turn links records w)
 
     -- the set that designators make
     pub of_gathered : (designators : List Designator) (members : List RelatedExpr) (records : List (Option Place)) (set : ℕ)
-        → R ℕ (gathered designators (values_of (map (λ e. e.0) members)) (here records) set)
-        (gathered designators (values_of (map (λ e. e.0) members)) (there records) set)
+        → R ℕ (gathered designators (values_of (map (λ e. e.0) members)) (around records) set)
+        (gathered designators (values_of (map (λ e. e.0) members)) (around_too records) set)
     of_gathered [] members records set = closed.gives set
     of_gathered (Single site ∷ designators) [] records set = closed.gives set
     of_gathered (Single site ∷ designators) (member ∷ members) records set =
@@ -345,8 +362,8 @@ module _ (R : (A : Type 0) → Action A → Action A → Type 0) (closed : Close
 
     -- the place to which selectors lead
     pub of_selected : (selectors : List Selector) (indexes : List RelatedExpr) (records : List (Option Place)) (p : Option Place)
-        → R (Option Place) (selected selectors (values_of (map (λ e. e.0) indexes)) (here records) p)
-        (selected selectors (values_of (map (λ e. e.0) indexes)) (there records) p)
+        → R (Option Place) (selected selectors (values_of (map (λ e. e.0) indexes)) (around records) p)
+        (selected selectors (values_of (map (λ e. e.0) indexes)) (around_too records) p)
     of_selected [] indexes records p = closed.gives p
     of_selected (Field position offset ∷ selectors) indexes records p = of_selected selectors indexes records (part p (step.Field position ∷ []))
     of_selected (Element fits cells ∷ selectors) [] records p = closed.gives None
@@ -357,19 +374,19 @@ module _ (R : (A : Type 0) → Action A → Action A → Type 0) (closed : Close
 
     -- the place that is accessed
     pub of_accessed : (access : Access) (indexes : List RelatedExpr) (records : List (Option Place))
-        → R (Option Place) (accessed access (values_of (map (λ e. e.0) indexes)) (here records))
-        (accessed access (values_of (map (λ e. e.0) indexes)) (there records))
+        → R (Option Place) (accessed access (values_of (map (λ e. e.0) indexes)) (around records))
+        (accessed access (values_of (map (λ e. e.0) indexes)) (around_too records))
     of_accessed access indexes records =
         closed.follows _ _ _ _ (closed.enters access.number visible)
         (λ _. subst (λ p. R (Option Place)
-        (selected access.selectors.items (values_of (map (λ e. e.0) indexes)) (here records) (begun (origin_of access) (here records)))
-        (selected access.selectors.items (values_of (map (λ e. e.0) indexes)) (there records) p)) (begun_same (origin_of access) records)
-        (of_selected access.selectors.items indexes records (begun (origin_of access) (here records))))
+        (selected access.selectors.items (values_of (map (λ e. e.0) indexes)) (around records) (begun (origin_of access) (around records)))
+        (selected access.selectors.items (values_of (map (λ e. e.0) indexes)) (around_too records) p)) (begun_same (origin_of access) records)
+        (of_selected access.selectors.items indexes records (begun (origin_of access) (around records))))
 
     -- the components of a whole value
     pub of_components : (value : Whole) (indexes : List RelatedExpr) (records : List (Option Place))
-        → R (List Value) (whole_of value (values_of (map (λ e. e.0) indexes)) (here records))
-        (whole_of value (values_of (map (λ e. e.0) indexes)) (there records))
+        → R (List Value) (whole_of value (values_of (map (λ e. e.0) indexes)) (around records))
+        (whole_of value (values_of (map (λ e. e.0) indexes)) (around_too records))
     of_components (Text number characters) indexes records =
         closed.follows _ _ _ _ (closed.enters number visible) (λ _. closed.gives (map (λ c. Number (pos c)) characters.items))
     of_components (VariableOf access type_id cells defined) indexes records =
@@ -377,16 +394,16 @@ module _ (R : (A : Type 0) → Action A → Action A → Type 0) (closed : Close
 
     -- actual parameters, from left to right
     pub of_all_passed : (actuals : List RelatedPassed) (records : List (Option Place))
-        → R (List Argument) (all_passed (map passing_of (map (λ p. p.0) actuals)) (here records))
-        (all_passed (map passing_of (map (λ p. p.0) actuals)) (there records))
+        → R (List Argument) (all_passed (map passing_of (map (λ p. p.0) actuals)) (around records))
+        (all_passed (map passing_of (map (λ p. p.0) actuals)) (around_too records))
     of_all_passed [] records = closed.gives []
     of_all_passed (one ∷ rest) records =
         closed.follows _ _ _ _ (one.1 records)
         (λ argument. closed.follows _ _ _ _ (of_all_passed rest records) (λ arguments. closed.gives (argument ∷ arguments)))
 
     pub of_call : (call : Call) (actuals : List RelatedPassed) (records : List (Option Place))
-        → R Value (call_of call (map passing_of (map (λ p. p.0) actuals)) (here records))
-        (call_of call (map passing_of (map (λ p. p.0) actuals)) (there records))
+        → R Value (call_of call (map passing_of (map (λ p. p.0) actuals)) (around records))
+        (call_of call (map passing_of (map (λ p. p.0) actuals)) (around_too records))
     of_call call actuals records =
         closed.follows _ _ _ _ (closed.enters call.number visible)
         (λ _. closed.follows _ _ _ _ (of_all_passed actuals records) (λ arguments. related call.block arguments visible))
@@ -411,7 +428,7 @@ module _ (R : (A : Type 0) → Action A → Action A → Type 0) (closed : Close
     bare_link = map-Link RelatedExpr RelatedPassed RelatedLink Expr Passed Link (λ e. e.0) (λ p. p.0) (λ l. l.0)
 
     pub of_layer : (y : Expr-F RelatedExpr RelatedPassed RelatedLink) (records : List (Option Place))
-        → R Value (valued (bare y) (here records)) (valued (bare y) (there records))
+        → R Value (valued (bare y) (around records)) (valued (bare y) (around_too records))
     of_layer (Constant number value) records = closed.follows _ _ _ _ (closed.enters number visible) (λ _. closed.gives (Number value))
     of_layer (Variable access indexes holds defined) records =
         closed.follows _ _ _ _ (of_accessed access indexes.items records) (λ p. closed.fetches p defined)
@@ -431,7 +448,7 @@ module _ (R : (A : Type 0) → Action A → Action A → Type 0) (closed : Close
     of_layer (CallOf call actuals) records = of_call call actuals.items records
 
     pub of_passed_layer : (y : Passed-F RelatedExpr RelatedPassed RelatedLink) (records : List (Option Place))
-        → R Argument (passed_on (bare_passed y) (here records)) (passed_on (bare_passed y) (there records))
+        → R Argument (passed_on (bare_passed y) (around records)) (passed_on (bare_passed y) (around_too records))
     of_passed_layer (PassedValue value fits) records =
         closed.follows _ _ _ _ (value.1 records)
         (λ v. closed.follows _ _ _ _ (of_require (is_in fits.range v) fits.site) (λ _. closed.gives (OfValue v)))
@@ -441,25 +458,25 @@ module _ (R : (A : Type 0) → Action A → Action A → Type 0) (closed : Close
         closed.follows _ _ _ _ (of_accessed access indexes.items records) (λ place. closed.gives (OfPlace place))
 
     pub of_link_layer : (y : Link-F RelatedExpr RelatedPassed RelatedLink) (records : List (Option Place)) (left : Value)
-        → R Value (linked (bare_link y) (here records) left) (linked (bare_link y) (there records) left)
+        → R Value (linked (bare_link y) (around records) left) (linked (bare_link y) (around_too records) left)
     of_link_layer y records left =
         closed.follows _ _ _ _ (closed.enters y.number visible)
         (λ _. closed.follows _ _ _ _ (y.operand.1 records) (λ v. of_operated_both y.operation left v))
 
     pub of_rolled : (x : Expr-F Expr Passed Link) (y : Expr-F RelatedExpr RelatedPassed RelatedLink) → bare y ≡ x → IsRelated (roll-Expr x)
     of_rolled x y is records =
-        subst (λ (f : Evaluation). R Value (f (here records)) (f (there records)))
+        subst (λ (f : Evaluation). R Value (f (around records)) (f (around_too records)))
         (sym (fold-roll-Expr Evaluation Passing Combination value_step passed_step link_step x ∙ ap valued (sym is))) (of_layer y records)
 
     pub of_rolled_passed : (x : Passed-F Expr Passed Link) (y : Passed-F RelatedExpr RelatedPassed RelatedLink) → bare_passed y ≡ x
         → IsRelatedPassed (roll-Passed x)
     of_rolled_passed x y is records =
-        subst (λ (f : Passing). R Argument (f (here records)) (f (there records)))
+        subst (λ (f : Passing). R Argument (f (around records)) (f (around_too records)))
         (sym (fold-roll-Passed Evaluation Passing Combination value_step passed_step link_step x ∙ ap passed_on (sym is))) (of_passed_layer y records)
 
     pub of_rolled_link : (x : Link-F Expr Passed Link) (y : Link-F RelatedExpr RelatedPassed RelatedLink) → bare_link y ≡ x → IsRelatedLink (roll-Link x)
     of_rolled_link x y is records left =
-        subst (λ (f : Combination). R Value (f (here records) left) (f (there records) left))
+        subst (λ (f : Combination). R Value (f (around records) left) (f (around_too records) left))
         (sym (fold-roll-Link Evaluation Passing Combination value_step passed_step link_step x ∙ ap linked (sym is))) (of_link_layer y records left)
 
     pub of_value : (e : Expr) → IsRelated e
@@ -486,39 +503,42 @@ module _ (R : (A : Type 0) → Action A → Action A → Type 0) (closed : Close
     all_actuals (one ∷ rest) = ap (λ others. one ∷ others) (all_actuals rest)
 
     pub of_access : (access : Access) (indexes : List Expr) (records : List (Option Place))
-        → R (Option Place) (accessed access (values_of indexes) (here records)) (accessed access (values_of indexes) (there records))
+        → R (Option Place) (accessed access (values_of indexes) (around records)) (accessed access (values_of indexes) (around_too records))
     of_access access indexes records =
-        subst (λ all. R (Option Place) (accessed access (values_of all) (here records)) (accessed access (values_of all) (there records))) (all_indexes indexes)
+        subst (λ all. R (Option Place) (accessed access (values_of all) (around records)) (accessed access (values_of all) (around_too records)))
+        (all_indexes indexes)
         (of_accessed access (all_related indexes) records)
 
     pub of_whole_value : (value : Whole) (indexes : List Expr) (records : List (Option Place))
-        → R (List Value) (whole_of value (values_of indexes) (here records)) (whole_of value (values_of indexes) (there records))
+        → R (List Value) (whole_of value (values_of indexes) (around records)) (whole_of value (values_of indexes) (around_too records))
     of_whole_value value indexes records =
-        subst (λ all. R (List Value) (whole_of value (values_of all) (here records)) (whole_of value (values_of all) (there records))) (all_indexes indexes)
+        subst (λ all. R (List Value) (whole_of value (values_of all) (around records)) (whole_of value (values_of all) (around_too records)))
+        (all_indexes indexes)
         (of_components value (all_related indexes) records)
 
     pub of_called : (call : Call) (actuals : List Passed) (records : List (Option Place))
-        → R Value (call_of call (map passing_of actuals) (here records)) (call_of call (map passing_of actuals) (there records))
+        → R Value (call_of call (map passing_of actuals) (around records)) (call_of call (map passing_of actuals) (around_too records))
     of_called call actuals records =
-        subst (λ all. R Value (call_of call (map passing_of all) (here records)) (call_of call (map passing_of all) (there records))) (all_actuals actuals)
+        subst (λ all. R Value (call_of call (map passing_of all) (around records)) (call_of call (map passing_of all) (around_too records)))
+        (all_actuals actuals)
         (of_call call (actuals_related actuals) records)
 
     pub of_designated : (designators : List Designator) (members : List Expr) (records : List (Option Place)) (set : ℕ)
-        → R ℕ (gathered designators (values_of members) (here records) set) (gathered designators (values_of members) (there records) set)
+        → R ℕ (gathered designators (values_of members) (around records) set) (gathered designators (values_of members) (around_too records) set)
     of_designated designators members records set =
-        subst (λ all. R ℕ (gathered designators (values_of all) (here records) set) (gathered designators (values_of all) (there records) set))
+        subst (λ all. R ℕ (gathered designators (values_of all) (around records) set) (gathered designators (values_of all) (around_too records) set))
         (all_indexes members)
         (of_gathered designators (all_related members) records set)
 
     pub of_width : (width : Option Width) (default : ℤ) (records : List (Option Place))
-        → R ℤ (width_of width default (here records)) (width_of width default (there records))
+        → R ℤ (width_of width default (around records)) (width_of width default (around_too records))
     of_width None default records = closed.gives default
     of_width (Some width) default records =
         closed.follows _ _ _ _ (of_value width.value records)
         (λ w. closed.follows _ _ _ _ (of_require (is_positive (number_of w)) width.site) (λ _. closed.gives (number_of w)))
 
     pub of_written : (value : Written) (width : Option Width) (records : List (Option Place))
-        → R (Unit {0}) (written_of value width (here records)) (written_of value width (there records))
+        → R (Unit {0}) (written_of value width (around records)) (written_of value width (around_too records))
     of_written (Ordinal value representation) width records =
         closed.follows _ _ _ _ (of_value value records)
         (λ v. closed.follows _ _ _ _ (of_width width (default_width representation) records) (λ w. closed.writes (text_of representation (number_of v) w)))
@@ -527,13 +547,13 @@ module _ (R : (A : Type 0) → Action A → Action A → Type 0) (closed : Close
         (λ components. closed.follows _ _ _ _ (of_width width (pos (length_of value)) records) (λ w. closed.writes (row_text components w)))
 
     pub of_parameters : (parameters : List WriteParameter) (records : List (Option Place))
-        → R (Unit {0}) (all_of (map parameter_of parameters) (here records)) (all_of (map parameter_of parameters) (there records))
+        → R (Unit {0}) (all_of (map parameter_of parameters) (around records)) (all_of (map parameter_of parameters) (around_too records))
     of_parameters [] records = closed.gives tt
     of_parameters (parameter ∷ parameters) records =
         closed.follows _ _ _ _ (of_written parameter.value parameter.width records) (λ _. of_parameters parameters records)
 
     pub of_reads : (variables : List ReadVariable) (records : List (Option Place))
-        → R (Unit {0}) (all_of (map read_of variables) (here records)) (all_of (map read_of variables) (there records))
+        → R (Unit {0}) (all_of (map read_of variables) (around records)) (all_of (map read_of variables) (around_too records))
     of_reads [] records = closed.gives tt
     of_reads (one ∷ variables) records =
         closed.follows _ _ _ _
@@ -542,47 +562,68 @@ module _ (R : (A : Type 0) → Action A → Action A → Type 0) (closed : Close
         (λ n. closed.follows _ _ _ _ (of_unless_outside one.range one.point n) (λ _. closed.stores place (Number n)))))
         (λ _. of_reads variables records)
 
+    pub of_opened : (with : List WithRecord) (records : List (Option Place))
+        → R (List (Option Place)) (opened with (around records)) (opened with (around_too records))
+    of_opened [] records = closed.gives records
+    of_opened (one ∷ others) records =
+        closed.follows _ _ _ _ (of_access one.access one.indexes.items records) (λ place. of_opened others (records ++ place ∷ []))
+
+  -- ---- statements, wherever they stand: in a for another environment is round them
+
+  module _ (calls others : Calls) (related : RelatedCalls calls others) where
+    abbrev here : Environment → List (Option Place) → Surroundings
+    here visible records = record { visible = visible; records = records; calls = calls }
+
+    abbrev there : Environment → List (Option Place) → Surroundings
+    there visible records = record { visible = behind outer visible; records = records; calls = others }
+
     -- ---- the rounds of a for
 
-    pub of_for_rounds : (head : ForHead) (body : Execution) (records : List (Option Place))
-        → R (Unit {0}) (body (here records)) (body (there records)) → (first last : ℤ)
-        → R (Unit {0}) (for_rounds head body (here records) first last) (for_rounds head body (there records) first last)
-    of_for_rounds head body records done first last =
+    pub for-rounds-related : (head : ForHead) (body : Execution) (visible : Environment) (records : List (Option Place))
+        → ((inner : Environment) → R (Unit {0}) (body (here inner records)) (body (there inner records))) → (first last : ℤ)
+        → R (Unit {0}) (for_rounds head body (here visible records) first last) (for_rounds head body (there visible records) first last)
+    for-rounds-related head body visible records done first last =
         closed.follows _ _ _ _ (of_require (is_in head.first.fits.range (Number first)) head.first.fits.site)
         (λ _. closed.follows _ _ _ _ (of_require (is_in head.last.fits.range (Number last)) head.last.fits.site)
-        (λ _. closed.fors (visible.variables head.control) head.direction last (body (here records)) (body (there records)) done first))
+        (λ _. closed.fors (visible.variables head.control) head.direction last (λ n. body (for_turn head first (here visible records) n))
+        (λ n. body (for_turn head first (there visible records) n)) (λ n.
+        let finished = values_before head.direction first n ∷ [] in
+        subst (λ turns. R (Unit {0}) (body (here (record visible { turns = visible.turns ++ finished }) records))
+        (body (record (there visible records) { visible = record visible { turns = turns } })))
+        (sym (append_assoc outer visible.turns finished)) (done (record visible { turns = visible.turns ++ finished }))) first))
 
-    pub of_for_between : (head : ForHead) (body : Execution) (records : List (Option Place))
-        → R (Unit {0}) (body (here records)) (body (there records)) → (first last : ℤ)
-        → R (Unit {0}) (for_between head body (here records) first last) (for_between head body (there records) first last)
-    of_for_between head body records done first last =
-        of_chosen (has_values head.direction first last) (for_rounds head body (here records) first last)
-        (for_rounds head body (there records) first last) (give tt) (give tt)
-        (of_for_rounds head body records done first last) (closed.gives tt)
-
-    -- ---- statements
+    for-between-related : (head : ForHead) (body : Execution) (visible : Environment) (records : List (Option Place))
+        → ((inner : Environment) → R (Unit {0}) (body (here inner records)) (body (there inner records))) → (first last : ℤ)
+        → R (Unit {0}) (for_between head body (here visible records) first last) (for_between head body (there visible records) first last)
+    for-between-related head body visible records done first last =
+        of_chosen (has_values head.direction first last) (for_rounds head body (here visible records) first last)
+        (for_rounds head body (there visible records) first last) (give tt) (give tt)
+        (for-rounds-related head body visible records done first last) (closed.gives tt)
 
     abbrev IsRelatedStmt : Stmt → Type 0
-    IsRelatedStmt e = (records : List (Option Place)) → R (Unit {0}) (effect_of e (here records)) (effect_of e (there records))
+    IsRelatedStmt e =
+        (visible : Environment) (records : List (Option Place)) → R (Unit {0}) (effect_of e (here visible records)) (effect_of e (there visible records))
 
     abbrev RelatedStmt : Type 0
     RelatedStmt = (e : Stmt) × IsRelatedStmt e
 
-    pub of_all : (statements : List RelatedStmt) (records : List (Option Place))
-        → R (Unit {0}) (all_of (map effect_of (map (λ e. e.0) statements)) (here records)) (all_of (map effect_of (map (λ e. e.0) statements)) (there records))
-    of_all [] records = closed.gives tt
-    of_all (statement ∷ statements) records = closed.follows _ _ _ _ (statement.1 records) (λ _. of_all statements records)
+    pub of_all : (statements : List RelatedStmt) (visible : Environment) (records : List (Option Place))
+        → R (Unit {0}) (all_of (map effect_of (map (λ e. e.0) statements)) (here visible records))
+        (all_of (map effect_of (map (λ e. e.0) statements)) (there visible records))
+    of_all [] visible records = closed.gives tt
+    of_all (statement ∷ statements) visible records = closed.follows _ _ _ _ (statement.1 visible records) (λ _. of_all statements visible records)
 
     -- the arm of a case at a value, or its error
-    pub of_arm : (site : ℕ) (rows : List (Vec ℤ Global)) (arms : List RelatedStmt) (n : ℤ) (records : List (Option Place))
-        → R (Unit {0}) (arm_of site rows (map effect_of (map (λ e. e.0) arms)) n (here records))
-        (arm_of site rows (map effect_of (map (λ e. e.0) arms)) n (there records))
-    of_arm site [] arms n records = closed.errs site
-    of_arm site (row ∷ rows) [] n records = closed.errs site
-    of_arm site (row ∷ rows) (arm ∷ arms) n records =
-        of_chosen (is_among row.items n) (effect_of arm.0 (here records)) (effect_of arm.0 (there records))
-        (arm_of site rows (map effect_of (map (λ e. e.0) arms)) n (here records)) (arm_of site rows (map effect_of (map (λ e. e.0) arms)) n (there records))
-        (arm.1 records) (of_arm site rows arms n records)
+    pub of_arm : (site : ℕ) (rows : List (Vec ℤ Global)) (arms : List RelatedStmt) (n : ℤ) (visible : Environment) (records : List (Option Place))
+        → R (Unit {0}) (arm_of site rows (map effect_of (map (λ e. e.0) arms)) n (here visible records))
+        (arm_of site rows (map effect_of (map (λ e. e.0) arms)) n (there visible records))
+    of_arm site [] arms n visible records = closed.errs site
+    of_arm site (row ∷ rows) [] n visible records = closed.errs site
+    of_arm site (row ∷ rows) (arm ∷ arms) n visible records =
+        of_chosen (is_among row.items n) (effect_of arm.0 (here visible records)) (effect_of arm.0 (there visible records))
+        (arm_of site rows (map effect_of (map (λ e. e.0) arms)) n (here visible records))
+        (arm_of site rows (map effect_of (map (λ e. e.0) arms)) n (there visible records))
+        (arm.1 visible records) (of_arm site rows arms n visible records)
 
     -- the statements of one layer
     abbrev done : Stmt-F Stmt → Execution
@@ -591,83 +632,95 @@ module _ (R : (A : Type 0) → Action A → Action A → Type 0) (closed : Close
     abbrev bare_stmt : Stmt-F RelatedStmt → Stmt-F Stmt
     bare_stmt = map-Stmt RelatedStmt Stmt (λ e. e.0)
 
-    pub of_opened : (with : List WithRecord) (records : List (Option Place))
-        → R (List (Option Place)) (opened with (here records)) (opened with (there records))
-    of_opened [] records = closed.gives records
-    of_opened (one ∷ others) records =
-        closed.follows _ _ _ _ (of_access one.access one.indexes.items records) (λ place. of_opened others (records ++ place ∷ []))
-
-    pub of_stmt_layer : (y : Stmt-F RelatedStmt) (records : List (Option Place))
-        → R (Unit {0}) (done (bare_stmt y) (here records)) (done (bare_stmt y) (there records))
-    of_stmt_layer (Empty number) records = closed.enters number visible
-    of_stmt_layer (Assign assignment) records =
+    pub of_stmt_layer : (y : Stmt-F RelatedStmt) (visible : Environment) (records : List (Option Place))
+        → R (Unit {0}) (done (bare_stmt y) (here visible records)) (done (bare_stmt y) (there visible records))
+    of_stmt_layer (Empty number) visible records = closed.enters number visible
+    of_stmt_layer (Assign assignment) visible records =
         closed.follows _ _ _ _ (closed.enters assignment.number visible)
-        (λ _. closed.follows _ _ _ _ (of_access assignment.target assignment.indexes.items records)
-        (λ p. closed.follows _ _ _ _ (of_value assignment.value records)
+        (λ _. closed.follows _ _ _ _ (of_access visible calls others related assignment.target assignment.indexes.items records)
+        (λ p. closed.follows _ _ _ _ (of_value visible calls others related assignment.value records)
         (λ v. closed.follows _ _ _ _ (of_require (is_in assignment.fits.range v) assignment.fits.site) (λ _. closed.stores p v))))
-    of_stmt_layer (Copy copying) records =
+    of_stmt_layer (Copy copying) visible records =
         closed.follows _ _ _ _ (closed.enters copying.number visible)
-        (λ _. closed.follows _ _ _ _ (of_access copying.target copying.indexes.items records)
-        (λ p. closed.follows _ _ _ _ (of_whole_value copying.value copying.value_indexes.items records)
+        (λ _. closed.follows _ _ _ _ (of_access visible calls others related copying.target copying.indexes.items records)
+        (λ p. closed.follows _ _ _ _ (of_whole_value visible calls others related copying.value copying.value_indexes.items records)
         (λ numbers. of_store_all p (components_of visible.types copying.type_id) numbers)))
-    of_stmt_layer (Write writing) records =
+    of_stmt_layer (Write writing) visible records =
         closed.follows _ _ _ _ (closed.enters writing.number visible)
-        (λ _. closed.follows _ _ _ _ (of_parameters writing.parameters.items records) (λ _. of_line_ended writing.ends_line))
-    of_stmt_layer (Read reading) records =
+        (λ _. closed.follows _ _ _ _ (of_parameters visible calls others related writing.parameters.items records) (λ _. of_line_ended writing.ends_line))
+    of_stmt_layer (Read reading) visible records =
         closed.follows _ _ _ _ (closed.enters reading.number visible)
-        (λ _. closed.follows _ _ _ _ (of_reads reading.variables.items records) (λ _. of_line_passed reading.line))
-    of_stmt_layer (Calling calling) records = closed.follows _ _ _ _ (of_called calling.call calling.actuals.items records) (λ _. closed.gives tt)
-    of_stmt_layer (Compound number statements) records = closed.follows _ _ _ _ (closed.enters number visible) (λ _. of_all statements.items records)
-    of_stmt_layer (If number condition consequence None) records =
+        (λ _. closed.follows _ _ _ _ (of_reads visible calls others related reading.variables.items records) (λ _. of_line_passed reading.line))
+    of_stmt_layer (Calling calling) visible records =
+        closed.follows _ _ _ _ (of_called visible calls others related calling.call calling.actuals.items records) (λ _. closed.gives tt)
+    of_stmt_layer (Compound number statements) visible records =
+        closed.follows _ _ _ _ (closed.enters number visible) (λ _. of_all statements.items visible records)
+    of_stmt_layer (If number condition consequence None) visible records =
         closed.follows _ _ _ _ (closed.enters number visible)
-        (λ _. closed.follows _ _ _ _ (of_value condition records)
-        (λ v. of_chosen (is_so v) (effect_of consequence.value.0 (here records)) (effect_of consequence.value.0 (there records)) (give tt) (give tt)
-        (consequence.value.1 records)
+        (λ _. closed.follows _ _ _ _ (of_value visible calls others related condition records)
+        (λ v. of_chosen (is_so v) (effect_of consequence.value.0 (here visible records)) (effect_of consequence.value.0 (there visible records))
+        (give tt) (give tt)
+        (consequence.value.1 visible records)
         (closed.gives tt)))
-    of_stmt_layer (If number condition consequence (Some alternative)) records =
+    of_stmt_layer (If number condition consequence (Some alternative)) visible records =
         closed.follows _ _ _ _ (closed.enters number visible)
-        (λ _. closed.follows _ _ _ _ (of_value condition records)
-        (λ v. of_chosen (is_so v) (effect_of consequence.value.0 (here records)) (effect_of consequence.value.0 (there records))
-        (effect_of alternative.value.0 (here records))
-        (effect_of alternative.value.0 (there records)) (consequence.value.1 records) (alternative.value.1 records)))
-    of_stmt_layer (While head body) records =
+        (λ _. closed.follows _ _ _ _ (of_value visible calls others related condition records)
+        (λ v. of_chosen (is_so v) (effect_of consequence.value.0 (here visible records)) (effect_of consequence.value.0 (there visible records))
+        (effect_of alternative.value.0 (here visible records))
+        (effect_of alternative.value.0 (there visible records)) (consequence.value.1 visible records) (alternative.value.1 visible records)))
+    of_stmt_layer (While head body) visible records =
         closed.follows _ _ _ _ (closed.enters head.number visible)
-        (λ _. closed.whiles (value_of head.condition (here records)) (value_of head.condition (there records))
-        (effect_of body.value.0 (here records)) (effect_of body.value.0 (there records))
-        (of_value head.condition records) (body.value.1 records))
-    of_stmt_layer (Repeat head statements) records =
+        (λ _. closed.whiles (value_of head.condition (here visible records)) (value_of head.condition (there visible records))
+        (effect_of body.value.0 (here visible records)) (effect_of body.value.0 (there visible records))
+        (of_value visible calls others related head.condition records) (body.value.1 visible records))
+    of_stmt_layer (Repeat head statements) visible records =
         let all : Execution = all_of (map effect_of (map (λ e. e.0) statements.items)) in
         closed.follows _ _ _ _ (closed.enters head.number visible)
-        (λ _. closed.repeats (all (here records)) (all (there records)) (value_of head.condition (here records))
-        (value_of head.condition (there records)) (of_all statements.items records)
-        (of_value head.condition records))
-    of_stmt_layer (For head body) records =
+        (λ _. closed.repeats (all (here visible records)) (all (there visible records)) (value_of head.condition (here visible records))
+        (value_of head.condition (there visible records)) (of_all statements.items visible records)
+        (of_value visible calls others related head.condition records))
+    of_stmt_layer (For head body) visible records =
         closed.follows _ _ _ _ (closed.enters head.number visible)
-        (λ _. closed.follows _ _ _ _ (of_value head.first.value records)
-        (λ a. closed.follows _ _ _ _ (of_value head.last.value records)
-        (λ b. closed.follows _ _ _ _ (of_for_between head (effect_of body.value.0) records (body.value.1 records) (number_of a) (number_of b))
+        (λ _. closed.follows _ _ _ _ (of_value visible calls others related head.first.value records)
+        (λ a. closed.follows _ _ _ _ (of_value visible calls others related head.last.value records)
+        (λ b. closed.follows _ _ _ _ (for-between-related head (effect_of body.value.0) visible records (λ inner. body.value.1 inner records)
+        (number_of a) (number_of b))
         (λ _. closed.undefines (visible.variables head.control)))))
-    of_stmt_layer (Case head arms) records =
+    of_stmt_layer (Case head arms) visible records =
         closed.follows _ _ _ _ (closed.enters head.number visible)
-        (λ _. closed.follows _ _ _ _ (of_value head.index records) (λ v. of_arm head.site head.constants.items arms.items (number_of v) records))
-    of_stmt_layer (With head body) records =
+        (λ _. closed.follows _ _ _ _ (of_value visible calls others related head.index records)
+        (λ v. of_arm head.site head.constants.items arms.items (number_of v) visible records))
+    of_stmt_layer (With head body) visible records =
         closed.follows _ _ _ _ (closed.enters head.number visible)
-        (λ _. closed.follows _ _ _ _ (of_opened head.records.items records) (λ inner. body.value.1 inner))
+        (λ _. closed.follows _ _ _ _ (of_opened visible calls others related head.records.items records) (λ inner. body.value.1 visible inner))
 
-    pub of_effect : (e : Stmt) → IsRelatedStmt e
-    of_effect = ind-Stmt IsRelatedStmt
-        (λ x y is records. subst (λ (f : Execution). R (Unit {0}) (f (here records)) (f (there records)))
-        (sym (fold-roll-Stmt Execution effect_step x ∙ ap done (sym is))) (of_stmt_layer y records))
+    pub each_stmt : (e : Stmt) → IsRelatedStmt e
+    each_stmt = ind-Stmt IsRelatedStmt
+        (λ x y is visible records. subst (λ (f : Execution). R (Unit {0}) (f (here visible records)) (f (there visible records)))
+        (sym (fold-roll-Stmt Execution effect_step x ∙ ap done (sym is))) (of_stmt_layer y visible records))
+
+  module _ (visible : Environment) (calls others : Calls) (related : RelatedCalls calls others) where
+    pub of_effect : (e : Stmt) (records : List (Option Place))
+        → R (Unit {0}) (effect_of e (here calls others related visible records)) (effect_of e (there calls others related visible records))
+    of_effect e records = each_stmt calls others related e visible records
 
     pub of_statements : (statements : List Stmt) (records : List (Option Place))
-        → R (Unit {0}) (all_of (map effect_of statements) (here records)) (all_of (map effect_of statements) (there records))
+        → R (Unit {0}) (all_of (map effect_of statements) (here calls others related visible records))
+        (all_of (map effect_of statements) (there calls others related visible records))
     of_statements [] records = closed.gives tt
     of_statements (statement ∷ statements) records = closed.follows _ _ _ _ (of_effect statement records) (λ _. of_statements statements records)
 
+    pub of_for_rounds : (head : ForHead) (body : Stmt) (records : List (Option Place)) (first last : ℤ)
+        → R (Unit {0}) (for_rounds head (effect_of body) (here calls others related visible records) first last)
+        (for_rounds head (effect_of body) (there calls others related visible records) first last)
+    of_for_rounds head body records first last =
+        for-rounds-related calls others related head (effect_of body) visible records (λ inner. each_stmt calls others related body inner records) first last
+
+module _ (R : (A : Type 0) → Action A → Action A → Type 0) (closed : Closed R) where
   -- an activation of a block, but for its begin and its end
-  pub of_executed : (tree : Tree) (calls others : Calls) → RelatedCalls calls others → (block : Block) (activation : Activation)
+  pub of_executed : (tree : Tree) (calls others : Calls) → RelatedCalls R closed calls others → (block : Block) (activation : Activation)
       → R Value (executed tree calls block activation) (executed tree others block activation)
   of_executed tree calls others related block activation =
       let visible = environment_of tree activation in
-      closed.follows _ _ _ _ (of_assign_all tree visible block.heading.parameters.items activation.arguments)
-      (λ _. closed.follows _ _ _ _ (of_effect visible calls others related block.body []) (λ _. of_result block.heading.result visible))
+      closed.follows _ _ _ _ (of_assign_all R closed tree visible block.heading.parameters.items activation.arguments)
+      (λ _. closed.follows _ _ _ _ (of_effect R closed visible calls others related block.body []) (λ _. of_result R closed block.heading.result visible))

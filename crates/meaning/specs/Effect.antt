@@ -17,7 +17,8 @@ use Rattle.meaning.specs.declared.store.Value.TheVariants.{Number, Members}
 use Rattle.meaning.specs.Integers.{byte_of, is_integer_number, is_true, is_within}
 use Rattle.meaning.specs.Store.{Environment, Place, Store, held, kept, forgotten, part}
 
--- an entry into the statement or expression with this number, for theorems alone
+-- an entry into the statement or expression with this number, with the environment, which tells the finished turns too,
+-- and the store there; for theorems alone
 pub record Visit : Type 0 where
   pub number : ℕ
   pub environment : Environment

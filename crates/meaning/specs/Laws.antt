@@ -1,8 +1,8 @@
 -- What holds of the meaning of every program (ISO 7185:1990, 6.7.2.1, 6.8): a run with more turns goes on from where
 -- the shorter one was, how deep activations may stand in one another never matters, a call that returns ends what it
--- began, each piece uses its turns exactly, a loop goes round by round, and a chain of operators is calculated from
--- left to right. It says nothing of what the single steps are.
-use Rattle.std.specs.Prelude.{◌≡◌, ◌≢◌, ◌⊎◌, ℕ, ◌+◌, ◌<◌, ℤ, Bool, List, ◌++◌, Option, map}
+-- began, each piece uses its turns exactly, a loop goes round by round, a chain of operators is calculated from left
+-- to right, and finished turns are told and change nothing else. It says nothing of what the single steps are.
+use Rattle.std.specs.Prelude.{◌≡◌, ◌≢◌, ◌⊎◌, ℕ, ◌+◌, ◌<◌, ℤ, Bool, List, [], ◌++◌, Option, map}
 use Rattle.std.specs.declared.alloc.Global.{Global}
 use Rattle.std.specs.declared.boxed.Box.{Box}
 use Rattle.std.specs.declared.vec.Vec.{Vec}
@@ -24,7 +24,8 @@ use Rattle.meaning.specs.declared.outcome.Ending.{Ending}
 use Rattle.meaning.specs.declared.outcome.Ending.TheVariants as ending
 use Rattle.meaning.specs.declared.store.Value.{Value}
 use Rattle.meaning.specs.Store.{Environment, Place}
-use Rattle.meaning.specs.Effect.{State, Reply, Gives, Stops, Action, Round, and_then, another, enter, looped, require}
+use Rattle.meaning.specs.Effect.{State, Visit, Reply, Gives, Stops, Action, Round, and_then, another, enter, looped}
+use Rattle.meaning.specs.Effect.{require}
 use Rattle.meaning.specs.Effect.{store, use_turn}
 use Rattle.meaning.specs.Meaning.{Argument, Surroundings, all_of, assign_all, call_of, calls_of, combined, effect_of}
 use Rattle.meaning.specs.Meaning.{for_round, for_rounds, meaning, parameter_of, passing_of, repeat_round, run, value_of}
@@ -150,7 +151,8 @@ pub record AllGoRoundByRound (env : Surroundings) : Type 0 where
       → GoesRoundByRound (while_round (value_of condition) (effect_of body) env)
   pub repeats : (statements : List Stmt) (condition : Expr)
       → GoesRoundByRound (repeat_round (all_of (map effect_of statements)) (value_of condition) env)
-  pub fors : (head : ForHead) (last : ℤ) (body : Stmt) → GoesRoundByRound (for_round head last (effect_of body) env)
+  pub fors : (head : ForHead) (first last : ℤ) (body : Stmt)
+      → GoesRoundByRound (for_round head first last (effect_of body) env)
 
 -- each loop is, wherever it stands
 abbrev pub LoopsGoRoundByRound : Type 0
@@ -174,3 +176,22 @@ ChainsGoLeftToRight =
     (env : Surroundings) (s t : State) (end : Ending)
     → longer.items ≡ rest.items ++ more → value_of (Chain first rest) env s ≡ Stops end t
     → value_of (Chain first longer) env s ≡ Stops end t
+
+-- an entry, a state and a reply without the finished turns that entries tell
+abbrev pub untold_visit : Visit → Visit
+untold_visit visit = record visit { environment = record visit.environment { turns = [] } }
+
+abbrev pub untold : State → State
+untold s = record s { visited = map untold_visit s.visited }
+
+abbrev pub untold_reply : {A : Type 0} → Reply A → Reply A
+untold_reply (Gives a s) = Gives a (untold s)
+untold_reply (Stops e s) = Stops e (untold s)
+
+-- which turns the for statements round a statement have finished changes nothing but what its entries tell of them
+abbrev pub FinishedTurnsAreOnlyTold : Type 0
+FinishedTurnsAreOnlyTold =
+    (tree : Tree) (depth : ℕ) (visible : Environment) (records : List (Option Place)) (turns : List ℕ)
+    (statement : Stmt) (s : State) →
+    untold_reply (effect_of statement (standing tree depth (record visible { turns = turns }) records) s)
+    ≡ untold_reply (effect_of statement (standing tree depth visible records) s)

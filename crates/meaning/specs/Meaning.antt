@@ -81,8 +81,8 @@ use Rattle.meaning.specs.declared.outcome.Ending.TheVariants as ending
 use Rattle.meaning.specs.declared.store.Value.{Value}
 use Rattle.meaning.specs.declared.store.Value.TheVariants.{Number, Members}
 use Rattle.meaning.specs.Integers.{is_integer_number, truth, is_true, is_odd, magnitude}
-use Rattle.meaning.specs.Store.{Environment, Place, part}
-use Rattle.meaning.specs.Counting.{has_values, value_behind}
+use Rattle.meaning.specs.Store.{Environment, Place, inside_for, part}
+use Rattle.meaning.specs.Counting.{has_values, value_behind, values_before}
 use Rattle.meaning.specs.Effect.{State, Reply, Gives, Stops, Action, Round, ◌>>=◌, give, stop, require, enter, use_turn}
 use Rattle.meaning.specs.Effect.{looped, begin, living_now, end_with}
 use Rattle.meaning.specs.Effect.{fetch, fetch_all, store, store_all, undefine, write, is_in, is_positive, number_of}
@@ -487,12 +487,21 @@ repeat_round body condition env start = do
   v ← condition env
   give (if is_so v then None else Some tt)
 
+-- where a piece stands inside one more for statement, which has finished so many turns
+abbrev pub within_for : Surroundings → ℕ → Surroundings
+within_for env finished = record env { visible = inside_for env.visible finished }
+
+-- where the statement of a for stands in the turn with a value of its control variable: one turn is finished for each
+-- value that it had before
+abbrev pub for_turn : ForHead → ℤ → Surroundings → ℤ → Surroundings
+for_turn head first env n = within_for env (values_before head.direction first n)
+
 -- a round of a for: its control variable gets a value, and then comes a turn (6.8.3.9)
-abbrev pub for_round : ForHead → ℤ → Execution → Surroundings → Round ℤ
-for_round head last body env n = do
+abbrev pub for_round : ForHead → ℤ → ℤ → Execution → Surroundings → Round ℤ
+for_round head first last body env n = do
   _ ← store (env.visible.variables head.control) (Number n)
   _ ← use_turn
-  _ ← body env
+  _ ← body (for_turn head first env n)
   give (value_behind head.direction last n)
 
 -- the rounds of a for whose bounds leave values; both bounds are tested before, the first one first
@@ -500,7 +509,7 @@ abbrev pub for_rounds : ForHead → Execution → Surroundings → ℤ → ℤ �
 for_rounds head body env first last = do
   _ ← require (is_in head.first.fits.range (Number first)) head.first.fits.site
   _ ← require (is_in head.last.fits.range (Number last)) head.last.fits.site
-  looped (for_round head last body env) first
+  looped (for_round head first last body env) first
 
 -- a for from the numbers of its bounds
 abbrev pub for_between : ForHead → Execution → Surroundings → ℤ → ℤ → Action (Unit {0})
@@ -644,11 +653,12 @@ seen_from activation root (Some variable) =
     else (if is_one_of activation.heading.around.items variable.block then activation.caller.variables root
     else None)
 
--- what is visible in an activation (6.2.2, 6.2.3)
+-- what is visible in an activation (6.2.2, 6.2.3), at its begin inside no for statement
 abbrev pub environment_of : Tree → Activation → Environment
 environment_of tree activation = record {
   variables = λ root. seen_from activation root (slice_get tree.variables.items root);
   types = tree.types;
+  turns = [];
 }
 
 -- what is passed is written to a value parameter (6.6.3.2)
@@ -704,7 +714,7 @@ calls_of tree (suc depth) number arguments caller =
 
 -- nothing is visible round a program
 abbrev pub no_environment : Tree → Environment
-no_environment tree = record { variables = λ root. None; types = tree.types }
+no_environment tree = record { variables = λ root. None; types = tree.types; turns = [] }
 
 -- the program's own activation
 abbrev pub program_activation : Tree → Heading → Activation

@@ -1,4 +1,4 @@
--- Places, the store and environments (ISO 7185:1990, 6.2.3.2, 6.5.1): where the variables of activations lie,
+-- Places, the store and environments (ISO 7185:1990, 6.2.3.2, 6.5.1, 6.8.3.9): where the variables of activations lie,
 -- and what they hold. It says nothing of cells, addresses or sizes.
 use Rattle.std.specs.Prelude.{ℕ, Bool, false, ◌&&◌, List, [], ◌∷◌, ◌++◌, Option, Some, None, if◌then◌else◌, nat_eq}
 use Rattle.std.specs.Ordering.{int_eq}
@@ -18,10 +18,16 @@ pub record Place : Type 0 where
 abbrev pub Store : Type 0
 Store = List (Place × Option Value)
 
--- what is visible in a block: the variables by their roots, each with its place, and the types by their numbers
+-- what is visible in a block: the variables by their roots, each with its place, and the types by their numbers; and
+-- how many turns each for statement has finished that stands round the point in its activation, the outermost first
 pub record Environment : Type 0 where
   pub variables : ℕ → Option Place
   pub types : List Form
+  pub turns : List ℕ
+
+-- inside one more for statement, which has finished so many turns
+abbrev pub inside_for : Environment → ℕ → Environment
+inside_for env finished = record env { turns = env.turns ++ finished ∷ [] }
 
 -- the same step
 abbrev pub step_eq : Step → Step → Bool

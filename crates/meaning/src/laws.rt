@@ -1,7 +1,7 @@
 //! What holds of the meaning of every program. Each law is the contract of a function that does nothing.
 ghost use Rattle.meaning.specs.Laws.{TurnsGoOn, TurnsExtendTheOutput, EndingsStay, DepthsAreEnough, CallsReturn};
 ghost use Rattle.meaning.specs.Laws.{StatementsUseTurnsExactly, ChainsGoLeftToRight, DeeperCallsChangeNothing};
-ghost use Rattle.meaning.specs.Laws.{PiecesUseTurnsExactly, LoopsGoRoundByRound};
+ghost use Rattle.meaning.specs.Laws.{PiecesUseTurnsExactly, LoopsGoRoundByRound, FinishedTurnsAreOnlyTold};
 
 /// A run with more turns goes on from where the run with fewer was: they are the same but for the turns that are left,
 /// or the one with fewer stopped for want of turns, with an output that begins the other's.
@@ -56,4 +56,9 @@ pub fn pieces_use_turns_exactly()
 /// A loop is its first round, and then the loop again, if another round follows.
 pub fn loops_go_round_by_round()
     ensures { LoopsGoRoundByRound }
+{}
+
+/// Which turns the `for` statements round a statement have finished changes nothing but what its entries tell of them.
+pub fn finished_turns_are_only_told()
+    ensures { FinishedTurnsAreOnlyTold }
 {}

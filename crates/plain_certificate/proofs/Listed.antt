@@ -21,7 +21,7 @@ use Rattle.checker_loops.specs.Loops.{claims_of, found_among, found_in, or_else}
 use Rattle.checker_loops.specs.Sections.{all_pairs, block_claims_in, pair_of}
 use Rattle.checker_loops.proofs.Lists.{contains-more, filtered, in-flat, in-map, of-flat, of-map}
 use Rattle.checker_calls.specs.Names.{block_is_known, claims_are_known, exit_is_known, fact_is_on, has_parameter, is_known, is_of_loops, is_outward}
-use Rattle.checker_calls.specs.Names.{is_round_about, is_variable_parameter, pair_is_known, section_is_known, stands_in}
+use Rattle.checker_calls.specs.Names.{is_round_about, is_variable_parameter, loop_fact_is_known, pair_is_known, section_is_known, stands_in}
 use Rattle.checker_calls.specs.Plain.{HasNoFacts, IsOfRoutine, ListsAll, is_plain, is_plain_loop}
 use Rattle.plain_certificate.specs.Widest.{block_loops, block_pairs, is_vacant, loop_with, loops_of, loops_with, may_pair, outward_roots, paired_roots}
 use Rattle.plain_certificate.specs.Widest.{pairs_of, parameters_of, roots_where, section_of, visible_roots, widest}
@@ -368,11 +368,12 @@ module _ (tree : Tree) where
       let changes_are : visible_roots tree block ≡ claims.changes.items = ap (λ (c : LoopClaims). c.changes) of.2 in
       let none : [] ≡ map said_fact claims.facts.items = ap (λ (c : LoopClaims). c.facts) of.2 in
       let seen = is_visible (outline_of tree) block in
+      let may_stand = loop_fact_is_known tree block (slice_get tree.loops.items claims.number) in
       and_from (stands_in block (slice_get tree.loops.items claims.number)) _
       (ap (λ (n : ℕ). stands_in block (slice_get tree.loops.items n)) (sym number_is) ∙ stands)
-      (and_from (list_all seen claims.changes.items) (list_all (fact_is_on tree seen) claims.facts.items)
+      (and_from (list_all seen claims.changes.items) (list_all may_stand claims.facts.items)
       (ap (list_all seen) (sym changes_are) ∙ passing seen (range_with_len 0 (length tree.variables.items)))
-      (ap (list_all (fact_is_on tree seen)) (none-mapped said_fact claims.facts.items (sym none))))
+      (ap (list_all may_stand) (none-mapped said_fact claims.facts.items (sym none))))
 
   known-itself : (block : ℕ) (section : KeptSection) → section_of tree block ≡ contents_of section → section.block ≡ block
       → cond (nat_eq section.block 0) (is_of_loops section) (block_is_known tree section) ≡ true

@@ -1,15 +1,16 @@
 -- The table of loops: what is met behind statements, one after another, and behind loops.
-use Rattle.std.proofs.Common.{◌≡◌, ℕ, None, ◌+◌, ◌<◌, ◌≤◌, List, [], ◌∷◌, ◌++◌, length, map, drop, set, get_or, sym, ap, ap₂, ◌∙◌, append-nil, append_assoc}
+use Rattle.std.proofs.Common.{◌≡◌, ℕ, Option, None, ◌+◌, ◌<◌, ◌≤◌, List, [], ◌∷◌, ◌++◌, length, map, drop, set, get_or, sym, ap, ap₂, ◌∙◌}
+use Rattle.std.proofs.Common.{append-nil, append_assoc}
 use Rattle.std.proofs.lemmas.List.{map-append, map-set, drop_more, at_drop_all}
 use Rattle.std.proofs.Math.Seq.{set-append_seam, drop-append_seam}
 use Rattle.typed_tree.specs.declared.tree.Loop.{Loop}
 use Rattle.typed_tree.specs.declared.tree.Stmt.{Stmt}
-use Rattle.typed_tree.specs.Loops.{Inside, no_loop, both_inside, all_inside, looped, inside_of}
+use Rattle.typed_tree.specs.Loops.{Inside, LoopControls, no_loop, both_inside, all_inside, looped, inside_of}
 use Rattle.typed_tree.specs.Loops.{controlled as controlled_inside}
 use Rattle.typed_tree.proofs.Insides.{inside_empty, inside_assign, inside_call, inside_copy, inside_write, inside_compound, inside_if, inside_if_else}
 use Rattle.typed_tree.proofs.Insides.{inside_read, inside_while}
 use Rattle.typed_tree.proofs.Insides.{inside_repeat, inside_for, inside_case, inside_with}
-use Rattle.resolver.specs.Table.{Seen, Meets, seen, row_of, rows_of, meets, controlled, opened, closed}
+use Rattle.resolver.specs.Table.{Seen, Meets, seen, row_of, rows_of, meets, controlled, opened, closed, untold}
 use Rattle.resolver.specs.declared.table.Met.{Met}
 
 pub meets_none : (s : Seen) → s ≡ meets no_loop s
@@ -22,13 +23,14 @@ meets_both a b s =
     ∙ ap (λ l. s.rows ++ l) (sym (map-append (λ one. (s.block, one.1)) a.loops b.loops)))
     (append_assoc s.controls a.controls b.controls)
 
-pub meets_looped : (loop_number : ℕ) (inside : Inside) (s : Seen)
-    → closed (length s.rows) (length s.controls) (meets inside (opened s)) ≡ meets (looped loop_number inside) s
-meets_looped loop_number inside s =
+pub meets_looped : (own : Option ℕ) (loop_number : ℕ) (inside : Inside) (s : Seen)
+    → closed own (length s.rows) (length s.controls) (meets inside (opened s)) ≡ meets (looped own loop_number inside) s
+meets_looped own loop_number inside s =
+    let told : List ℕ → LoopControls = λ c. record { own = own; inside = c } in
     ap (λ r. record { block = s.block; rows = r; controls = s.controls ++ inside.controls })
-    (ap₂ (λ r c. set r (length s.rows) (s.block, c)) (append_assoc s.rows ((s.block, []) ∷ []) (rows_of s.block inside.loops))
+    (ap₂ (λ r c. set r (length s.rows) (s.block, told c)) (append_assoc s.rows ((s.block, untold) ∷ []) (rows_of s.block inside.loops))
     (drop-append_seam s.controls inside.controls)
-    ∙ set-append_seam s.rows (s.block, []) (rows_of s.block inside.loops) (s.block, inside.controls))
+    ∙ set-append_seam s.rows (s.block, untold) (rows_of s.block inside.loops) (s.block, told inside.controls))
 
 pub meets_controlled : (control : ℕ) (inside : Inside) (s : Seen) → meets inside (controlled control s) ≡ meets (controlled_inside control inside) s
 meets_controlled control inside s =
@@ -47,17 +49,17 @@ then_meets first second both are old now new begins ends not_short =
     (before.0, last.1 ∙ ap second before.1 ∙ are (seen old))
 
 -- a loop is met, from where it begins to where it ends
-pub loop_met : (loop_number : ℕ) (inside : Inside) (old now there new : Met) (row start : ℕ) → Meets opened old now → row ≡ length (seen old).rows
-    → start ≡ length old.controls.items → Meets (meets inside) now there → Meets (closed row start) there new
-    → Meets (meets (looped loop_number inside)) old new
-loop_met loop_number inside old now there new row start begins is from met ends not_short =
+pub loop_met : (own : Option ℕ) (loop_number : ℕ) (inside : Inside) (old now there new : Met) (row start : ℕ) → Meets opened old now
+    → row ≡ length (seen old).rows → start ≡ length old.controls.items → Meets (meets inside) now there → Meets (closed own row start) there new
+    → Meets (meets (looped own loop_number inside)) old new
+loop_met own loop_number inside old now there new row start begins is from met ends not_short =
     let last = ends not_short in
     let middle = met last.0 in
     let first = begins middle.0 in (
       first.0,
-      last.1 ∙ ap₂ (λ r c. closed r c (seen there)) is from
-          ∙ ap (closed (length (seen old).rows) (length old.controls.items)) (middle.1 ∙ ap (meets inside) first.1)
-          ∙ meets_looped loop_number inside (seen old),
+      last.1 ∙ ap₂ (λ r c. closed own r c (seen there)) is from
+          ∙ ap (closed own (length (seen old).rows) (length old.controls.items)) (middle.1 ∙ ap (meets inside) first.1)
+          ∙ meets_looped own loop_number inside (seen old),
     )
 
 -- statements that are met one after another

@@ -82,12 +82,12 @@ fn meet(met: &mut Met, statement: &Stmt)
         Stmt::While { body, .. } => {
             let (row, start) = open(met);
             meet(met, body);
-            close(met, row, start);
+            close(met, None, row, start);
         }
         Stmt::Repeat { statements, .. } => {
             let (row, start) = open(met);
             meet_all(met, statements);
-            close(met, row, start);
+            close(met, None, row, start);
         }
         Stmt::Case { arms, .. } => meet_all(met, arms),
         Stmt::With { body, .. } => meet(met, body),
@@ -95,7 +95,7 @@ fn meet(met: &mut Met, statement: &Stmt)
             meet_control(met, head.control);
             let (row, start) = open(met);
             meet(met, body);
-            close(met, row, start);
+            close(met, Some(head.control), row, start);
         }
     }
 }
@@ -128,6 +128,7 @@ fn open(met: &mut Met) -> (usize, usize)
     let at = (met.loops.len(), met.controls.len());
     let begun = Loop {
         block: met.block,
+        control: None,
         controls: Vec::new(met.alloc),
     };
     if let Err(error) = met.loops.push(begun) {
@@ -136,10 +137,10 @@ fn open(met: &mut Met) -> (usize, usize)
     at
 }
 
-// It ends: the control variables that were met since stand in its row.
+// It ends: its own control variable stands in its row, and those that were met since.
 #[tactic(auto, using(crate::proofs::Tables::row_told))]
-fn close(met: &mut Met, row: usize, start: usize)
-    ensures { Meets (closed row start) met.old met.new }
+fn close(met: &mut Met, control: Option<u32>, row: usize, start: usize)
+    ensures { Meets (closed control row start) met.old met.new }
 {
     let controls = match behind(met.alloc, &met.controls, start) {
         Ok(controls) => controls,
@@ -150,7 +151,11 @@ fn close(met: &mut Met, row: usize, start: usize)
     };
     let block = met.block;
     if let Some(told) = met.loops.get_mut(row) {
-        *told = Loop { block, controls };
+        *told = Loop {
+            block,
+            control,
+            controls,
+        };
     }
 }
 

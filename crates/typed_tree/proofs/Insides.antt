@@ -17,7 +17,7 @@ use Rattle.typed_tree.specs.declared.tree.Stmt.TheOpen as layer
 use Rattle.typed_tree.specs.declared.tree.Stmt.TheViews.{roll-Stmt}
 use Rattle.typed_tree.specs.declared.tree.Stmt.TheFolds.{map-Stmt, fold-roll-Stmt}
 use Rattle.typed_tree.specs.declared.tree.Loop.{Loop}
-use Rattle.typed_tree.specs.Loops.{AreLoops, Inside, no_loop, both_inside, all_inside, looped, controlled, statement_inside, inside_of}
+use Rattle.typed_tree.specs.Loops.{AreLoops, Inside, LoopControls, no_loop, both_inside, all_inside, looped, controlled, statement_inside, inside_of}
 
 rolled : (s : Stmt) (d : layer.Stmt-F Stmt) → roll-Stmt d ≡ s → inside_of s ≡ statement_inside (map-Stmt Stmt Inside inside_of d)
 rolled s d is = ap inside_of (sym is) ∙ fold-roll-Stmt Inside statement_inside d
@@ -55,15 +55,15 @@ inside_if_else number condition consequence alternative =
     (stmt.rolls-If number condition consequence (Some alternative))
 
 pub inside_while : (head : LoopHead) (body : Box Stmt Global)
-    → inside_of (stmt.While head body) ≡ looped head.loop_number (inside_of body.value)
+    → inside_of (stmt.While head body) ≡ looped None head.loop_number (inside_of body.value)
 inside_while head body = rolled (stmt.While head body) (layer.While head body) (stmt.rolls-While head body)
 
 pub inside_repeat : (head : LoopHead) (statements : Vec Stmt Global)
-    → inside_of (stmt.Repeat head statements) ≡ looped head.loop_number (all_inside (map inside_of statements.items))
+    → inside_of (stmt.Repeat head statements) ≡ looped None head.loop_number (all_inside (map inside_of statements.items))
 inside_repeat head statements = rolled (stmt.Repeat head statements) (layer.Repeat head statements) (stmt.rolls-Repeat head statements)
 
 pub inside_for : (head : ForHead) (body : Box Stmt Global)
-    → inside_of (stmt.For head body) ≡ controlled head.control (looped head.loop_number (inside_of body.value))
+    → inside_of (stmt.For head body) ≡ controlled head.control (looped (Some head.control) head.loop_number (inside_of body.value))
 inside_for head body = rolled (stmt.For head body) (layer.For head body) (stmt.rolls-For head body)
 
 pub inside_case : (head : CaseHead) (arms : Vec Stmt Global) → inside_of (stmt.Case head arms) ≡ all_inside (map inside_of arms.items)
@@ -75,11 +75,11 @@ inside_with head body = rolled (stmt.With head body) (layer.With head body) (stm
 -- ---- rows of loops
 
 module _ (rows : List Loop) (block : ℕ) where
-  pub loops_joined : (first second : List (ℕ × List ℕ)) → AreLoops rows block first → AreLoops rows block second → AreLoops rows block (first ++ second)
+  pub loops_joined : (first second : List (ℕ × LoopControls)) → AreLoops rows block first → AreLoops rows block second → AreLoops rows block (first ++ second)
   loops_joined [] second one more = more
   loops_joined (l ∷ first) second one more = (one.0, loops_joined first second one.1 more)
 
-  pub loops_split : (first second : List (ℕ × List ℕ)) → AreLoops rows block (first ++ second) → AreLoops rows block first × AreLoops rows block second
+  pub loops_split : (first second : List (ℕ × LoopControls)) → AreLoops rows block (first ++ second) → AreLoops rows block first × AreLoops rows block second
   loops_split [] second all = (tt, all)
   loops_split (l ∷ first) second all =
       let rest = loops_split first second all.1 in

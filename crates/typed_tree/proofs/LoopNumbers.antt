@@ -14,7 +14,7 @@ use Rattle.typed_tree.specs.declared.tree.Stmt.TheFolds.{map-Stmt, fold-roll-Stm
 use Rattle.typed_tree.specs.Accesses.{AtVariable, origin_of}
 use Rattle.typed_tree.specs.Entries.{joined, of_block}
 use Rattle.typed_tree.specs.WellFormed.{length_of, source_of}
-use Rattle.typed_tree.specs.Loops.{Inside, statement_inside, inside_of, loops_of, loops_of_block}
+use Rattle.typed_tree.specs.Loops.{Inside, LoopControls, statement_inside, inside_of, loops_of, loops_of_block}
 use Rattle.typed_tree.proofs.Quiet.{quiet_expr, quiet_accessed, quiet_value, quiet_parameters, quiet_called, quiet_reads, quiet_records}
 use Rattle.typed_tree.specs.Look.{Mark, Look, look_expr, look_record, look_parameter, arms_look, statement_look}
 use Rattle.typed_tree.specs.Look.{look_stmt, look_block, look_access, look_whole, Target, WholeTarget}
@@ -147,7 +147,7 @@ loop_numbers_are tree = by tree.bodies.items
     look : ℕ → Look
     look number = of_block look_block number (slice_get tree.blocks.items number)
 
-    loops : ℕ → List (ℕ × List ℕ)
+    loops : ℕ → List (ℕ × LoopControls)
     loops number = of_block (λ number. loops_of_block) number (slice_get tree.blocks.items number)
 
     by : (bodies : List ℕ) → loops_of_look (flat_map look bodies) ≡ map (λ l. l.0) (flat_map loops bodies)

@@ -10,12 +10,12 @@ use Rattle.typed_tree.specs.declared.tree.Tree.{Tree}
 use Rattle.typed_tree.specs.declared.tree.Block.{Block}
 use Rattle.typed_tree.specs.declared.tree.Loop.{Loop}
 use Rattle.typed_tree.specs.Entries.{of_block}
-use Rattle.typed_tree.specs.Loops.{IsLoop, AreLoops, AreLoopsOf, loops_of, loops_of_block, loop_row, loop_rows, loop_rows_of_block}
+use Rattle.typed_tree.specs.Loops.{IsLoop, AreLoops, AreLoopsOf, LoopControls, controls_told, loops_of, loops_of_block, loop_row, loop_rows, loop_rows_of_block}
 use Rattle.typed_tree.proofs.Blocks.{among_bodies, are_loops_of}
 
 -- a loop with its block
 abbrev Placed : Type 0
-Placed = ℕ × (ℕ × List ℕ)
+Placed = ℕ × (ℕ × LoopControls)
 
 -- each of these has its row
 abbrev HaveRows : List Loop → List Placed → Type 0
@@ -35,8 +35,8 @@ have_rows done [] (one ∷ ones) same numbers = absurd cc
 have_rows done (row ∷ rows) (one ∷ ones) same numbers =
     let number : one.1.0 ≡ length done = cc in
     let told : loop_row row ≡ (one.0, one.1.1) = cc in
-    let here : row.block ≡ one.0 = ap (λ (r : ℕ × List ℕ). r.0) told in
-    let controls : row.controls.items ≡ one.1.1 = ap (λ (r : ℕ × List ℕ). r.1) told in
+    let here : row.block ≡ one.0 = ap (λ (r : ℕ × LoopControls). r.0) told in
+    let controls : controls_told row ≡ one.1.1 = ap (λ (r : ℕ × LoopControls). r.1) told in
     let others : map loop_row rows ≡ map (λ (o : Placed). (o.0, o.1.1)) ones = cc in
     let more : map (λ (o : Placed). o.1.0) ones ≡ range_with_len (length done + 1) (length ones) = cc in
     let counted : length done + 1 ≡ length (done ++ row ∷ []) = sym (length-append done (row ∷ [])) in
@@ -50,7 +50,7 @@ rows_split rows [] second all = (tt, all)
 rows_split rows (one ∷ first) second all = let rest = rows_split rows first second all.1 in ((all.0, rest.0), rest.1)
 
 -- those of one block
-rows_of_one : (rows : List Loop) (number : ℕ) (loops : List (ℕ × List ℕ)) → HaveRows rows (map (λ one. (number, one)) loops) → AreLoops rows number loops
+rows_of_one : (rows : List Loop) (number : ℕ) (loops : List (ℕ × LoopControls)) → HaveRows rows (map (λ one. (number, one)) loops) → AreLoops rows number loops
 rows_of_one rows number [] all = tt
 rows_of_one rows number (one ∷ loops) all = (all.0, rows_of_one rows number loops all.1)
 
@@ -80,12 +80,12 @@ module _ (tree : Tree) where
   rows_at : (number : ℕ) (block : Option Block)
       → of_block loop_rows_of_block number block ≡ map (λ (one : Placed). (one.0, one.1.1)) (of_block placed_loops number block)
   rows_at number None = refl
-  rows_at number (Some block) = sym (mapped_twice (λ (one : ℕ × List ℕ). (number, one)) (λ (one : Placed). (one.0, one.1.1)) (loops_of_block block))
+  rows_at number (Some block) = sym (mapped_twice (λ (one : ℕ × LoopControls). (number, one)) (λ (one : Placed). (one.0, one.1.1)) (loops_of_block block))
 
   numbers_at : (number : ℕ) (block : Option Block)
       → map (λ one. one.0) (of_block (λ n. loops_of_block) number block) ≡ map (λ (one : Placed). one.1.0) (of_block placed_loops number block)
   numbers_at number None = refl
-  numbers_at number (Some block) = sym (mapped_twice (λ (one : ℕ × List ℕ). (number, one)) (λ (one : Placed). one.1.0) (loops_of_block block))
+  numbers_at number (Some block) = sym (mapped_twice (λ (one : ℕ × LoopControls). (number, one)) (λ (one : Placed). one.1.0) (loops_of_block block))
 
   all_rows : (bodies : List ℕ)
       → flat_map (λ n. of_block loop_rows_of_block n (block_at n)) bodies ≡ map (λ (one : Placed). (one.0, one.1.1)) (flat_map part_at bodies)

@@ -1,5 +1,6 @@
 -- The loops of a typed tree, its repetitive statements (ISO 7185:1990, 6.8.3.6), in the order of their first words: the
--- number of each, and the control variables of the for statements inside it. It says nothing of what a loop does.
+-- number of each, its control variable, if it is a for statement (6.8.3.9), and the control variables of the for
+-- statements inside it. It says nothing of what a loop does.
 use Rattle.std.specs.Prelude.{◌≡◌, ℕ, suc, ◌++◌, List, [], ◌∷◌, Option, Some, None, flat_map, map, slice_get}
 use Rattle.std.specs.declared.alloc.Global.{Global}
 use Rattle.std.specs.declared.boxed.Box.{Box}
@@ -13,10 +14,15 @@ use Rattle.typed_tree.specs.declared.tree.Stmt.TheOpen.Stmt-F.{Case, Copy, Call,
 use Rattle.typed_tree.specs.declared.tree.Stmt.TheFolds.{fold-Stmt}
 use Rattle.typed_tree.specs.Entries.{in_text}
 
+-- the control variables of a loop: its own, if it is a for statement, and those of the for statements inside it
+pub record LoopControls : Type 0 where
+  pub own : Option ℕ
+  pub inside : List ℕ
+
 -- what stands inside a statement
 pub record Inside : Type 0 where
-  -- its loops: the number of each, and the control variables of the for statements inside that loop
-  pub loops : List (ℕ × List ℕ)
+  -- its loops: the number of each, and its control variables
+  pub loops : List (ℕ × LoopControls)
   -- the control variables of its for statements
   pub controls : List ℕ
 
@@ -36,9 +42,12 @@ abbrev pub alternative_inside : Option (Box Inside Global) → Inside
 alternative_inside None = no_loop
 alternative_inside (Some inside) = inside.value
 
--- a loop of a number round others
-abbrev pub looped : ℕ → Inside → Inside
-looped loop_number body = record { loops = (loop_number, body.controls) ∷ body.loops; controls = body.controls }
+-- a loop of a number, perhaps with a control variable, round others
+abbrev pub looped : Option ℕ → ℕ → Inside → Inside
+looped own loop_number body = record {
+  loops = (loop_number, record { own = own; inside = body.controls }) ∷ body.loops;
+  controls = body.controls;
+}
 
 -- the control variable of a for statement isn't inside its own loop
 abbrev pub controlled : ℕ → Inside → Inside
@@ -54,9 +63,9 @@ statement_inside (Call calling) = no_loop
 statement_inside (Compound number statements) = all_inside statements.items
 statement_inside (If number condition consequence alternative) =
     both_inside consequence.value (alternative_inside alternative)
-statement_inside (While head body) = looped head.loop_number body.value
-statement_inside (Repeat head statements) = looped head.loop_number (all_inside statements.items)
-statement_inside (For head body) = controlled head.control (looped head.loop_number body.value)
+statement_inside (While head body) = looped None head.loop_number body.value
+statement_inside (Repeat head statements) = looped None head.loop_number (all_inside statements.items)
+statement_inside (For head body) = controlled head.control (looped (Some head.control) head.loop_number body.value)
 statement_inside (Case head arms) = all_inside arms.items
 statement_inside (With head body) = body.value
 
@@ -64,7 +73,7 @@ abbrev pub inside_of : Stmt → Inside
 inside_of = fold-Stmt Inside statement_inside
 
 -- the loops of a statement
-abbrev pub loops_of_statement : Stmt → List (ℕ × List ℕ)
+abbrev pub loops_of_statement : Stmt → List (ℕ × LoopControls)
 loops_of_statement statement = (inside_of statement).loops
 
 -- the control variables of the for statements of a statement
@@ -72,32 +81,35 @@ abbrev pub controls_of : Stmt → List ℕ
 controls_of statement = (inside_of statement).controls
 
 -- the loops of a block
-abbrev pub loops_of_block : Block → List (ℕ × List ℕ)
+abbrev pub loops_of_block : Block → List (ℕ × LoopControls)
 loops_of_block block = loops_of_statement block.body
 
 -- the loops of a program, in the order of the text
-abbrev pub loops_of : Tree → List (ℕ × List ℕ)
+abbrev pub loops_of : Tree → List (ℕ × LoopControls)
 loops_of = in_text (λ number. loops_of_block)
 
--- what a row of the table tells: the block of a loop, and the control variables of the for statements inside it
-abbrev pub loop_row : Loop → ℕ × List ℕ
-loop_row row = (row.block, row.controls.items)
+-- what a row of the table tells: the block of a loop, and its control variables
+abbrev pub controls_told : Loop → LoopControls
+controls_told row = record { own = row.control; inside = row.controls.items }
+
+abbrev pub loop_row : Loop → ℕ × LoopControls
+loop_row row = (row.block, controls_told row)
 
 -- the rows of the loops of a block of a number
-abbrev pub loop_rows_of_block : ℕ → Block → List (ℕ × List ℕ)
+abbrev pub loop_rows_of_block : ℕ → Block → List (ℕ × LoopControls)
 loop_rows_of_block number block = map (λ one. (number, one.1)) (loops_of_block block)
 
 -- the rows of the loops of a program, in the order of the text
-abbrev pub loop_rows : Tree → List (ℕ × List ℕ)
+abbrev pub loop_rows : Tree → List (ℕ × LoopControls)
 loop_rows = in_text loop_rows_of_block
 
--- a loop has a row in the table, with its block and the control variables of the for statements inside it
-abbrev pub IsLoop : List Loop → ℕ → ℕ × List ℕ → Type 0
+-- a loop has a row in the table, with its block and its control variables
+abbrev pub IsLoop : List Loop → ℕ → ℕ × LoopControls → Type 0
 IsLoop rows block one =
-    (row : Loop) × (slice_get rows one.0 ≡ Some row) × (row.block ≡ block) × (row.controls.items ≡ one.1)
+    (row : Loop) × (slice_get rows one.0 ≡ Some row) × (row.block ≡ block) × (controls_told row ≡ one.1)
 
 -- each of these has
-abbrev pub AreLoops : List Loop → ℕ → List (ℕ × List ℕ) → Type 0
+abbrev pub AreLoops : List Loop → ℕ → List (ℕ × LoopControls) → Type 0
 AreLoops rows block [] = Unit {0}
 AreLoops rows block (one ∷ others) = IsLoop rows block one × AreLoops rows block others
 

@@ -28,6 +28,8 @@ pub struct Tree {
 pub struct Loop {
     /// The number of the block in which it stands.
     pub block: u32,
+    /// The root number of its own control variable, if it is a for statement (6.8.3.9).
+    pub control: Option<u32>,
     /// The root numbers of the control variables of the for statements inside it, in the order of the text.
     pub controls: Vec<u32>,
 }

@@ -8,7 +8,7 @@ use Rattle.typed_tree.specs.Ids.{Stands, AreInOrder, ArePointsInOrder}
 use Rattle.typed_tree.specs.Look.{tree_look}
 use Rattle.typed_tree.specs.declared.tree.Block.{Block}
 use Rattle.typed_tree.specs.Entries.{in_text}
-use Rattle.typed_tree.specs.Loops.{loops_of_block}
+use Rattle.typed_tree.specs.Loops.{LoopControls, loop_row, loops_of_block}
 use Rattle.typing.specs.Passing.{Passed, after}
 use Rattle.typing.specs.Typing.{typing}
 
@@ -25,13 +25,13 @@ pub record IsLeft (passed : Passed) (tree : Tree) : Type 0 where
   pub points : map (λ point. point.place) tree.points.items ≡ passed.points
   pub point_ids : ArePointsInOrder tree.points.items
 
--- the loops of a block of a number: of each the block, and the control variables inside it
-abbrev pub rows_of_block : ℕ → Block → List (ℕ × List ℕ)
+-- the loops of a block of a number: of each the block, and its control variables
+abbrev pub rows_of_block : ℕ → Block → List (ℕ × LoopControls)
 rows_of_block number block = map (λ one. (number, one.1)) (loops_of_block block)
 
--- the table of loops says where each stands, and which control variables are inside it
+-- the table of loops says where each stands, its own control variable, if it has one, and those inside it
 abbrev pub HasLoops : Tree → Type 0
-HasLoops tree = map (λ row. (row.block, row.controls.items)) tree.loops.items ≡ in_text rows_of_block tree
+HasLoops tree = map loop_row tree.loops.items ≡ in_text rows_of_block tree
 
 -- a program breaks no rule of names and types, and this is its typed tree
 pub record IsTyped (program : Program) (tree : Tree) : Type 0 where

@@ -18,8 +18,8 @@ returns c =
     let aliases = c.args.aliases.now in
     let root = c.args.root in
     let range = c.args.range in
-    moves-as (λ known. assigned root range (unless_alias aliases (said_form c.args.form))
+    moves-as (λ known. assigned root range (unless_alias aliases (said_form c.args.form)) c.args.step
     (with_aliases_stored tree aliases (row_stored tree (root, range) ∷ []) known)) (moves-then c.store.ensures c.assign.ensures)
-    (ap₂ (λ (form : Option Bound) (id : Option TypeId). assigned root range form
+    (ap₂ (λ (form : Option Bound) (id : Option TypeId). assigned root range form c.args.step
     (with_aliases_stored tree aliases ((let stored : Stored = record { type_id = id; range = range } in stored) ∷ []) (seen state)))
     c.form_unless_alias.ensures (c.type_id.ensures ∙ ap (λ (t : Tree). type_at (rows_of t) root) c.table.ensures))

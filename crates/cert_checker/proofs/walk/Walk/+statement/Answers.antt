@@ -8,19 +8,23 @@ use Rattle.checker_rows.specs.Rows.{is_ordinal_variable}
 use Rattle.checker_state.specs.State.{State}
 use Rattle.checker_state.specs.declared.value.Known.{Known}
 use Rattle.checker_ways.specs.View.{said_way}
-use Rattle.checker_loops.specs.Ways.{Way, turn_begun, turn_ended, way_of, way_out, where_counts}
+use Rattle.checker_state.specs.Growths.{without_turns}
+use Rattle.checker_loops.specs.View.{claims_of_round, said_turns}
+use Rattle.checker_loops.specs.Ways.{Way, way_of, way_out, where_counts}
 use Rattle.checker_state.specs.Loops.{with_undefined}
 use Rattle.checker_expressions.specs.Visits.{all_counted}
 use Rattle.checker_expressions.specs.Walk.{Walking, ◌>>=◌, changed_by, give, value_walk, with_state}
 use Rattle.cert_checker.specs.Walk.{all_of, begin_way, bounds_walk, branches, case_walk, choice_walk, either_of, for_turns, for_walk, from_entry}
 use Rattle.cert_checker.specs.Walk.{index_walk, parted}
 use Rattle.cert_checker.specs.Walk.{record_walk, repeat_round, with_walk}
+use Rattle.cert_checker.specs.Walk.{for_round, growths_entered, turn_from, turn_to}
 use Rattle.cert_checker.specs.Walk.{here, loop_walk, repeat_walk, rounds_of, statement_walk, tested_way, where_so, while_walk}
 use Rattle.checker_expressions.specs.View.{state_of}
 use Rattle.cert_checker.specs.View.{context_of, else_entries, else_walk, statements_entries}
 use Rattle.cert_checker.proofs.Steps.{all-end, all-step, counted-end, counted-step, counted-then, goes-from_entry, goes-give, goes-here, goes-then, moved}
 use Rattle.cert_checker.proofs.StepsLayers.{entries-If, goes-as, statement-Case, statement-For, statement-If, statement-Repeat, statement-While}
 use Rattle.cert_checker.proofs.StepsLayers.{statement-With}
+use Rattle.checker_trail.proofs.Ways.{moves-then}
 use Rattle.cert_checker.proofs.StepsWays.{loop-alike, loop-done, parted-done, round_of_parts, rounds-go, then-assoc, ways-done}
 use Rattle.cert_checker.proofs.StepsCase.{arms-begin, arms-end, arms-step, case-tested}
 use Rattle.cert_checker.proofs.walk.Walk.+statement.Goals as goal
@@ -227,11 +231,16 @@ turns-returns-clause-goes g t c =
     let body = statement_walk c.args.body.now in
     let way = said_way c.args.way.now in
     let steady = said_way c.steady_in-steady.result in
-    rounds-go head body way steady c.steady_in-steady.ensures
-    (loop-done head.loop_number head.place (Some way.control) (changed_by (turn_begun steady) >>= λ _. body)
-    (λ _ tested. with_state (turn_ended steady tested)) (λ _ _ tested. way_out steady tested) c.mark-mark.result.length c.enter_loop.ensures
-    (goes-then (changed_by (turn_begun steady)) (λ _. body) (moved c.begin_turn.ensures) c.statement.ensures.goes) c.mark-mark.ensures
-    (moved c.end_turn.ensures) c.leave_loop.ensures c.leave-turn.ensures.long c.leave-turn.ensures.back (moved c.leave.ensures))
+    let turns = said_turns c.turns_in-turns.result in
+    let claims = claims_of_round c.turns_in-turns.result.round in
+    let facts = claims.facts in
+    let round = for_round turns head.place facts steady body in
+    rounds-go head body way steady turns claims c.steady_in-steady.ensures c.turns_in-turns.ensures.turns_are c.turns_in-turns.ensures.claims_are
+    (goes-then (growths_entered head.place facts) (λ _. loop_walk head.loop_number head.place (Some steady.control) round) c.enter_turns.ensures
+    (loop-done head.loop_number head.place (Some steady.control) (turn_from turns facts steady >>= λ _. body)
+    (λ _ _. turn_to turns head.place facts steady) (λ _ _ tested. way_out steady (without_turns turns.depth tested)) c.mark-mark.result.length
+    c.enter_loop.ensures (goes-then (turn_from turns facts steady) (λ _. body) c.begin_turn.ensures c.statement.ensures.goes) c.mark-mark.ensures
+    c.end_turn.ensures c.leave_loop.ensures c.leave-turn.ensures.long c.leave-turn.ensures.back (moved (moves-then c.end.ensures c.leave.ensures))))
 
 -- ---- a case
 

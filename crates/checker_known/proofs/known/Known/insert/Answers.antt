@@ -27,6 +27,7 @@ pub invariant_of-self : goal.invariant_of-self
 invariant_of-self c =
     let known = c.args.self.now in
     record {
+      growing_counted = c.args.self.now.growing_counted;
       counted = (recounted (goal.at.invariant_of-self c).After-wrong_around).count;
       knots_counted =
           knots-inserted known.held.items c.insert.new.self.items c.deref-2.result.now c.deref-in-Ok-2.result.now c.min-place.result known.knots.items

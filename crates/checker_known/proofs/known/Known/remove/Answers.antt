@@ -26,6 +26,7 @@ pub invariant_of-self : goal.invariant_of-self
 invariant_of-self c =
     let known = c.args.self.now in
     record {
+      growing_counted = c.args.self.now.growing_counted;
       counted = (recounted (goal.at.invariant_of-self c).After-wrong_at).count;
       knots_counted =
           knots-removed known.held.items c.remove.new.self.items c.deref-then-place-len.result.now c.deref-then-place-len-3.result.now c.args.place

@@ -30,6 +30,7 @@ pub invariant_of-self : goal.invariant_of-self
 invariant_of-self c =
     let known = c.args.self.now in
     record {
+      growing_counted = c.args.self.now.growing_counted;
       counted = (recounted (goal.at.invariant_of-self c).After-wrong_around).count;
       knots_counted =
           knots-set known.held.items (set known.held.items c.args.place c.args.now) c.deref-then-place-len.result.now c.deref-then-place-len-3.result.now

@@ -1,4 +1,4 @@
-use Rattle.std.proofs.Common.{ap, ap₂, ◌∙◌, Option}
+use Rattle.std.proofs.Common.{ap, ap₂, ◌∙◌, Option, None}
 use Rattle.domain.specs.Interval.{Interval}
 use Rattle.checker_state.specs.Bounds.{Bound}
 use Rattle.checker_state.specs.Changes.{assigned}
@@ -16,6 +16,6 @@ returns c =
     moves-as (turn_ended way) (moves-then (moves-then c.assign.ensures c.unless_empty.ensures) c.in_order.ensures)
     (ap₂ (λ (form : Option Bound) (own : Option Bound).
     in_order way.direction own way.last.form
-    (unless_empty c.values_behind-range.result (assigned way.control c.values_behind-range.result form state))) c.next.ensures c.own.ensures
+    (unless_empty c.values_behind-range.result (assigned way.control c.values_behind-range.result form None state))) c.next.ensures c.own.ensures
     ∙ ap (λ (range : Interval). in_order way.direction (own way) way.last.form (moved_on way range state))
     (c.values_behind-range.ensures ∙ ap (values_behind way.direction way.last.values) c.range.ensures))

@@ -37,7 +37,7 @@ returns-in-Ok-Some-clause-does c = λ env outer s agrees.
     let final = c.in-Ok-Some.last in
     let value_fits : SFits w32 value = search rules in
     let final_fits : SFits w32 final = search rules in
-    let does : ℤ → ℤ → Type 0 = λ n m. Does (λ env. counting_on env head n m body) taken c.for_round.result c.for_round.new.self in
+    let does : ℤ → ℤ → Type 0 = λ n m. Does (λ env. counting_on env head n n m body) taken c.for_round.result c.for_round.new.self in
     let operands = operands_of old in
     let below = below_top (below_top operands) in
     let last = c.popped_number-last.ensures in
@@ -45,7 +45,7 @@ returns-in-Ok-Some-clause-does c = λ env outer s agrees.
     let same = first.same ∙ ap (λ (r : Run). record r { operands = taken.operands }) last.same in
     let tested = both_taken head operands _ _ _ last.top last.below first.top (Ok (Some (value, final)))
     (sym c.tested_bounds.ensures ∙ c.in-Ok-Some.is ∙ ap Ok c.in-Ok-Some.field-0-is) in
-    goes_on_below old taken c.for_round.new.self env outer s (λ env. counting_on env head value final body) below c.for_round.result _
+    goes_on_below old taken c.for_round.new.self env outer s (λ env. counting_on env head value value final body) below c.for_round.result _
     same (first.below ∙ ap below_top last.below)
     (does-bounds env outer head body (reverse old.pending.items) operands s (Ok (Some (value, final))) tested
     ∙ ap (λ (r : Reply (Unit {0})). and_then r (λ _. forgetting (env.visible.variables head.control) (pending_of env outer (reverse old.pending.items)) below))

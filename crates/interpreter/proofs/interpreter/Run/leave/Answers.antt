@@ -5,7 +5,7 @@ use Rattle.meaning.specs.Effect.{Gives, Stops}
 use Rattle.meaning.specs.Meaning.{result_of}
 use Rattle.operations.specs.Answers.{answered}
 use Rattle.interpreter.specs.declared.interpreter.Run.{Run}
-use Rattle.interpreter.proofs.Activating.{closes, goes_back, stops_back}
+use Rattle.interpreter.proofs.Activating.{closes, ends_turn, goes_back, stops_back}
 use Rattle.interpreter.proofs.Resuming.{continues_as}
 use Rattle.interpreter.proofs.interpreter.Run.leave.Goals as goal
 
@@ -38,3 +38,11 @@ returns-in-Some-With-clause-does c = λ env outer s agrees none some.
     let new : Run = record old { callers = c.pop.new.self; activation = c.close.new.self; pending = given.pending } in
     closes old new c.close.new.self given.pending c.pop.new.self.items env outer s agrees popped c.close.ensures.same c.close.ensures.records
     refl refl
+
+pub returns-in-Some-For-clause-does : goal.returns-in-Some-For-clause-does
+returns-in-Some-For-clause-does c = λ env outer s agrees none some.
+    let old = c.args.self.now in
+    let given = c.in-Some-For in
+    let popped = given.ensures.items ∙ ap (λ (w : Caller). c.pop.new.self.items ++ w ∷ []) given.field-0-is in
+    let new : Run = record old { callers = c.pop.new.self; pending = given.pending } in
+    ends_turn old new given.pending c.pop.new.self.items env outer s agrees popped refl refl

@@ -5,17 +5,17 @@ use Rattle.std.proofs.Common.{◌≡◌, ℤ, rules, arith, Option, reverse, sym
 use Rattle.meaning.specs.Effect.{and_then, another, looped}
 use Rattle.operations.specs.Answers.{value_before}
 use Rattle.interpreter.specs.Pending.{Does, counting, counting_on, forgetting, pending_of, operands_of}
-use Rattle.interpreter.proofs.Resuming.{continues_as, passed}
+use Rattle.interpreter.proofs.Resuming.{continues_as, passed_three}
 use Rattle.interpreter.proofs.interpreter.Run.next_round.Goals as goal
 
 pub returns-in-Some-clause-does : goal.returns-in-Some-clause-does
 returns-in-Some-clause-does c = λ env outer s agrees.
     let old = c.args.self.now in
     let head = c.args.head.now in
-    let each = counting env head c.args.last c.args.body.now in
+    let each = counting env head c.args.first c.args.last c.args.body.now in
     let value_fits : SFits w32 c.in-Some.value = search rules in
-    let does : ℤ → ℤ → Type 0 = λ n m.
-    Does (λ env. counting_on env head n m c.args.body.now) old c.for_round.result c.for_round.new.self in
+    let does : ℤ → ℤ → ℤ → Type 0 = λ first n m.
+    Does (λ env. counting_on env head first n m c.args.body.now) old c.for_round.result c.for_round.new.self in
     let last : to_z w32 (of_z w32 c.args.last) ≡ c.args.last = omega (arith, ints, c.ranges.last) in
     let value : to_z w32 (of_z w32 c.args.value) ≡ c.args.value = omega (arith, ints, c.ranges.value) in
     let next = pending_of env outer (reverse old.pending.items) in
@@ -23,4 +23,4 @@ returns-in-Some-clause-does c = λ env outer s agrees.
     (ap (λ (o : Option ℤ). and_then (another o (looped each) s) (λ _. forgetting (env.visible.variables head.control) next (operands_of old)))
     (sym (ap (value_before head.direction c.args.last) value)
     ∙ sym (ap (λ n. value_before head.direction n (to_z w32 (of_z w32 c.args.value))) last) ∙ sym c.value_toward.ensures ∙ c.in-Some.is))
-    (passed does c.in-Some.value c.args.last value_fits c.ranges.last c.for_round.ensures.does env outer s agrees)
+    (passed_three does c.args.first c.in-Some.value c.args.last c.ranges.first value_fits c.ranges.last c.for_round.ensures.does env outer s agrees)

@@ -1,4 +1,4 @@
-use Rattle.std.proofs.Common.{◌≡◌, List, [], ◌∷◌, ◌++◌, Option, reverse, refl, sym, ◌∙◌, ap}
+use Rattle.std.proofs.Common.{◌≡◌, ◌+◌, List, [], ◌∷◌, ◌++◌, Option, reverse, arith, refl, sym, ◌∙◌, ap}
 use Rattle.interpreter_state.specs.declared.work.Work.{Work}
 use Rattle.interpreter_state.specs.Views.{records_in}
 use Rattle.meaning.specs.Store.{Place}
@@ -7,6 +7,8 @@ use Rattle.interpreter.specs.declared.interpreter.Run.{Run}
 use Rattle.interpreter.specs.Pending.{below_top, opening, operands_of, pending_of, top_place}
 use Rattle.interpreter.proofs.Activating.{agrees_opened}
 use Rattle.interpreter.proofs.Resuming.{agreed_below, continues_as}
+use Rattle.interpreter.proofs.Sizes.{adds_after, waits-size}
+use Rattle.interpreter.specs.Size.{pending_size, size_of_with}
 use Rattle.interpreter.proofs.interpreter.Run.within.Goals as goal
 
 pub returns-clause-does : goal.returns-clause-does
@@ -29,3 +31,17 @@ returns-clause-does c = λ env outer s agrees.
     ∙ ap (λ (l : List Argument). opening there records body next l s) (sym top.below)
     ∙ ap (λ (works : List Work). opening there records body (pending_of there next (reverse works)) (operands_of taken) s) (sym none))
     (c.do_next.ensures.does there next s opened)
+
+pub returns-clause-fewer : goal.returns-clause-fewer
+returns-clause-fewer c =
+    let old = c.args.self.now in
+    let taken = c.popped_place-place.new.self in
+    let same = c.popped_place-place.ensures.same in
+    let mid : Run = record taken { activation = c.open.new.self; callers = c.push.new.self; pending = c.replace-pending.new.dest } in
+    let inner = size_of_with c.args.records.now c.args.body.now.value in
+    let none : mid.pending.items ≡ [] = ap (λ v. v.items) c.replace-pending.ensures.after ∙ c.new.ensures.items in
+    let waits : pending_size mid ≡ pending_size taken + 1 =
+    waits-size taken mid c.replace-pending.result none (ap (λ v. v.items) c.replace-pending.ensures.value) c.in_ok-push.ensures.items in
+    let before : pending_size taken ≡ pending_size old = ap pending_size same in
+    adds_after old mid c.do_next.new.self c.do_next.result (1 + inner) (2 + inner) (ap (λ (r : Run). r.turns) same) (omega (arith, waits, before))
+    c.do_next.ensures.size

@@ -1,0 +1,171 @@
+//! How variables grow with the turns of for statements, as far as that is known: where they begin, and what turns add.
+
+use crate::outcome::Outcome;
+use certificate::Fact;
+use checker_rows::Rows;
+use domain::Domain;
+use domain::growth::Growth;
+use domain::interval::Interval;
+
+/// How often what turns add moves, before a growth falls.
+const MOST_MOVES: u8 = 11;
+
+/// A growth of a variable of which nothing is known yet.
+pub fn growth_of(root: u32) -> Fact {
+    let growth = Growth {
+        first: 1,
+        first_step: 0,
+        last: 0,
+        last_step: 0,
+    };
+    Fact::Grows { root, growth }
+}
+
+/// Where it begins: nowhere, where nothing came.
+pub(crate) fn begun(growth: &Growth) -> Interval {
+    Interval::between(growth.first, growth.last)
+}
+
+/// What turns add.
+pub(crate) fn steps(growth: &Growth) -> Interval {
+    Interval::between(growth.first_step, growth.last_step)
+}
+
+/// What a turn added, behind which a variable grows so; nothing is told where that are no numbers of a growth.
+pub(crate) fn added(growth: &Growth, turned: &Growth) -> Interval {
+    let first = i64::from(turned.first) - i64::from(growth.first);
+    let last = i64::from(turned.last) - i64::from(growth.last);
+    match (i32::try_from(first), i32::try_from(last)) {
+        (Ok(first), Ok(last)) => Interval::between(first, last),
+        _ => Interval::EMPTY,
+    }
+}
+
+/// A range comes to where it begins.
+pub(crate) fn begin(growth: &mut Growth, came: Interval) -> Outcome {
+    let known = begun(growth);
+    if came.leq(&known) {
+        return Outcome::Stays;
+    }
+    moved(set_begun(growth, known.join(&came)))
+}
+
+/// A turn ends. What the first one adds that adds anything is what all are taken to add, up to the next that adds more.
+pub(crate) fn turn(growth: &mut Growth, moves: &mut u8, turned: Option<Growth>) -> Outcome {
+    let Some(turned) = turned else {
+        return fallen(*moves);
+    };
+    if turned.is_within_next(growth) {
+        return Outcome::Stays;
+    }
+    let added = added(growth, &turned);
+    let known = if *moves == 0 {
+        Interval::EMPTY
+    } else {
+        steps(growth)
+    };
+    if added.is_empty() || *moves == MOST_MOVES {
+        return fallen(*moves);
+    }
+    *moves = moves.saturating_add(1);
+    moved(set_steps(growth, known.join(&added)))
+}
+
+// A growth that never moved says what the range of its variable does, which comes from outside.
+fn fallen(moves: u8) -> Outcome {
+    if moves == 0 {
+        Outcome::Fades
+    } else {
+        Outcome::Falls
+    }
+}
+
+fn moved(is_set: bool) -> Outcome {
+    if is_set {
+        Outcome::Moves
+    } else {
+        Outcome::Falls
+    }
+}
+
+/// It begins in a range, if that has the numbers of a growth. Whether it has.
+pub(crate) fn set_begun(growth: &mut Growth, range: Interval) -> bool {
+    match ends(range) {
+        None => false,
+        Some((first, last)) => {
+            growth.first = first;
+            growth.last = last;
+            true
+        }
+    }
+}
+
+/// Turns add a number of a range, if that has the numbers of a growth. Whether it has.
+pub(crate) fn set_steps(growth: &mut Growth, range: Interval) -> bool {
+    match ends(range) {
+        None => false,
+        Some((first, last)) => {
+            growth.first_step = first;
+            growth.last_step = last;
+            true
+        }
+    }
+}
+
+// The ends of a range of integers that isn't empty.
+fn ends(range: Interval) -> Option<(i32, i32)> {
+    if range.is_empty() || !range.leq(&Interval::INTEGER) {
+        return None;
+    }
+    Some((
+        i32::try_from(range.first()).ok()?,
+        i32::try_from(range.last()).ok()?,
+    ))
+}
+
+/// Of the growths and the ranges of the same variables, at the head of a for that finishes so many turns at most, those
+/// are dropped that say no more than the others.
+pub(crate) fn settle(facts: &mut Vec<Fact>, rows: &Rows, most: i64) {
+    for place in (0..facts.len()).rev() {
+        if let Some(idle) = idle(facts, rows, place, most) {
+            take_out(facts, idle);
+        }
+    }
+}
+
+// The place of what says no more, if a growth stands at a place: of that, or of the range of its variable.
+fn idle(facts: &[Fact], rows: &Rows, place: usize, most: i64) -> Option<usize> {
+    let Some(Fact::Grows { root, growth }) = facts.get(place) else {
+        return None;
+    };
+    let limits = rows.row_limits(*root as usize);
+    let reach = growth.reach(most).meet(&limits);
+    let beside = range_of(facts, *root);
+    let range = beside.map_or(limits, |(_, range)| range);
+    if begun(growth).is_empty() || range.leq(&reach) {
+        return Some(place);
+    }
+    match beside {
+        Some((beside, range)) if reach.leq(&range) => Some(beside),
+        _ => None,
+    }
+}
+
+// The range of a variable among facts, with its place.
+fn range_of(facts: &[Fact], root: u32) -> Option<(usize, Interval)> {
+    for (place, fact) in facts.iter().enumerate() {
+        if let Fact::Range { path, range } = fact
+            && path.root == root
+        {
+            return Some((place, *range));
+        }
+    }
+    None
+}
+
+/// Takes out what stands at a place, which the last one takes.
+pub(crate) fn take_out<T: Drop>(list: &mut Vec<T>, place: usize) {
+    if place < list.len() {
+        let _fallen = list.swap_remove(place);
+    }
+}
