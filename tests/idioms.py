@@ -359,4 +359,42 @@ def sums(m):
     return m.program(ask, fill, *m.shuffled([total, nest, on, tick]))
 
 
-IDIOMS = counted_list, stack, read_sort_print, divisor, histogram, halves, matrix, text, ring, sums
+
+def lengths(m):
+    """A list is filled more than once, each time as far as the input says, and how far is kept by another variable."""
+    high, less = m.number(m.randint(3, 40)), m.pick("", " - 1")
+    m.declare({"table": f"array [1..{high}] of integer"}, a="table", n="integer", t="integer")
+    fill = m.loop("i", 1, "k", m.pick("a[i] := i * 3;", "read(a[i]);"), forms="for")
+    fill = f"read(k);\nif (k >= 1) and (k <= {high}) then\n{compound(fill, f'n := k{less};')};"
+    fill = m.part("fill", "var a, var n", fill, i="integer", k="integer")
+    show = m.part("show", "var a, n", m.loop("j", 1, "n", "write(a[j]: 1);", down=True), j="integer")
+    return m.program("n := 0;", m.loop("t", 1, m.randint(2, 9), fill, forms=ALL), show)
+
+
+def constants(m):
+    """A routine stores at constants, one beside the other; a loop reads what stands there."""
+    first, count, room = m.pick(1, 1, 0, -4, 10), m.randint(2, 8), m.randint(0, 5)
+    places = range(first, first + count)
+    m.declare({"table": f"array [{first - m.randint(0, 3)}..{first + count + room}] of integer"}, a="table")
+    stores = [f"a[{m.number(place)}] := {m.randint(-99, 99)};" for place in m.pick(places, reversed(places))]
+    m.routine("enter", "var a", *stores)
+    show = m.loop("i", m.number(places[0]), m.number(places[-1]), "write(a[i] + 1: 1);", down=True)
+    return m.program(f"{m.call('enter')};", m.part("show", "var a", show, i="integer"))
+
+
+def passed(m):
+    """An array is filled by a loop that steps from one bound to another, up or down, and read between them."""
+    high, kind = m.number(m.randint(3, 40)), m.pick("integer", "integer", "bound")
+    m.declare({"table": f"array [1..{high}] of integer", "bound": "0..maxint"},
+              a="table", low="integer", top=kind, k="integer")
+    fill = m.loop("i", "low", "top", "a[i] := i;", forms="while", down=True)
+    m.routine("fill", "var a, low, top", fill, i="integer")
+    show = m.loop("k", "low", "top", "write(a[k]: 1);", down=True)
+    test = f"if (1 <= low) and (top <= {high}) then\n{compound(m.call('fill') + ';', show)};"
+    return m.program("read(low, top);", test)
+
+
+IDIOMS = (
+    counted_list, stack, read_sort_print, divisor, histogram, halves, matrix, text, ring, sums, lengths, constants,
+    passed,
+)

@@ -9,8 +9,8 @@ use crate::program::Program;
 use checker_calls::visible::is_visible;
 use typed_tree::tree::Passed;
 
-/// How often claims are carried to callers, and then to what they call.
-const ROUNDS: u32 = 2;
+/// How often claims are carried to callers at most, and then to what they call.
+const ROUNDS: u32 = 8;
 
 /// Another name of a value in another block, or of a variable that is passed as a whole.
 #[derive(Clone, Copy)]
@@ -18,6 +18,17 @@ struct Name {
     from: End,
     to: End,
     is_variable: bool,
+}
+
+impl Name {
+    // That of a value.
+    fn of(from: End, to: End) -> Name {
+        Name {
+            from,
+            to,
+            is_variable: false,
+        }
+    }
 }
 
 impl<'p, 't> Program<'p, 't> {
@@ -28,21 +39,68 @@ impl<'p, 't> Program<'p, 't> {
             self.memory
                 .push(&mut claims, self.claims_in(number_of(block)));
         }
-        for _ in 0..ROUNDS {
-            for caller in &self.tree.bodies {
-                self.carry(&mut claims, *caller, None);
-            }
-        }
-        for _ in 0..ROUNDS {
-            for caller in self.tree.bodies.iter().rev() {
-                self.carry(&mut claims, *caller, Some(mentions));
+        // What is told of copies comes last, so that it pushes out nothing else; then it is carried too.
+        for _ in 0..2 {
+            self.carry_all(&mut claims, None);
+            self.carry_all(&mut claims, Some(mentions));
+            for (block, claims) in claims.iter_mut().enumerate() {
+                self.add_copies(number_of(block), claims);
             }
         }
         claims
     }
 
+    // Carries claims over all calls, back and forth, until there are no more or it was done often.
+    fn carry_all(&self, claims: &mut Vec<Vec<Claim>>, down: Option<&[Vec<u32>]>) {
+        let bodies = &self.tree.bodies;
+        for _ in 0..ROUNDS {
+            let mut is_more = false;
+            for caller in bodies.iter().chain(bodies.iter().rev()) {
+                is_more |= self.carry(claims, *caller, down);
+            }
+            if !is_more {
+                break;
+            }
+        }
+    }
+
+    // Adds what is claimed of a variable also of those that get its value, and back.
+    fn add_copies(&self, block: u32, claims: &mut Vec<Claim>) {
+        for event in row(&self.events, block) {
+            if let Event::Assign(assignment) = event
+                && let Some(root) = entire(&assignment.target)
+                && let Some(value) = End::of(self.rows, &assignment.value)
+                && let Some(other) = value.root
+                && other != root
+            {
+                let (copy, original) = (End::variable(root), End::variable(other));
+                self.add_named(Name::of(copy, value), claims);
+                let back = copy.moved(value.number.saturating_neg());
+                self.add_named(Name::of(original, back), claims);
+                // What goes as far as a greater value goes as far as the copy too.
+                if value.number < 0 {
+                    self.add_named(Name::of(original, copy), claims);
+                }
+            }
+        }
+    }
+
+    fn add_named(&self, name: Name, claims: &mut Vec<Claim>) {
+        let mut named = self.memory.none();
+        for claim in claims.iter() {
+            if let Some(claim) = renamed(&[name], *claim) {
+                self.memory.push(&mut named, claim);
+            }
+        }
+        for claim in named {
+            claim.add_to(&self.memory, claims);
+        }
+    }
+
     // Carries claims over the calls of a block: to it, or to the blocks that it calls, where these mention something.
-    fn carry(&self, claims: &mut Vec<Vec<Claim>>, caller: u32, down: Option<&[Vec<u32>]>) {
+    // Whether there are more then.
+    fn carry(&self, claims: &mut Vec<Vec<Claim>>, caller: u32, down: Option<&[Vec<u32>]>) -> bool {
+        let mut is_more = false;
         for event in row(&self.events, caller) {
             let Event::Call { call, actuals } = event else {
                 continue;
@@ -65,11 +123,14 @@ impl<'p, 't> Program<'p, 't> {
                         && self.sees(to, claim)
                         && let Some(known) = claims.get_mut(to as usize)
                     {
+                        let count = known.len();
                         claim.add_to(&self.memory, known);
+                        is_more |= known.len() > count;
                     }
                 }
             }
         }
+        is_more
     }
 
     // Whether a block sees all that a claim names.
@@ -127,10 +188,11 @@ fn renamed(names: &[Name], claim: Claim) -> Option<Claim> {
                 inner,
             ))
         }
-        Claim::Order(root, other) => Some(Claim::Order(
-            end_renamed(names, End::variable(root)).root?,
-            end_renamed(names, End::variable(other)).root?,
-        )),
+        Claim::Order(root, other) => {
+            let root = end_renamed(names, End::variable(root)).root?;
+            let other = end_renamed(names, End::variable(other)).root?;
+            (root != other).then_some(Claim::Order(root, other))
+        }
     }
 }
 

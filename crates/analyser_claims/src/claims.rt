@@ -16,17 +16,20 @@ const MOST_DEEDS: usize = 24;
 /// What is done with a variable in a block.
 #[derive(Clone, Copy, PartialEq, Eq, PartialOrd, Ord)]
 enum Deed {
-    /// Another is set to its value, which from there is this.
-    Copied(End),
     /// It is the control variable of a for from one bound up to another, or down.
     Runs(End, End),
     /// It rises from an end, or falls from one.
     Rises(End),
     Falls(End),
+    /// It is set to a value.
+    Begins(End),
+    /// It is set to a greater value than it had, or to a less one.
+    Ascends,
+    Descends,
+    /// Its value is compared with a bound.
+    Meets(End),
     /// Its value plus a number selects the element of an array that gets a value.
     Selects(Array, i64),
-    /// Its value is compared with that of another, or set to it.
-    Meets(u32),
     /// In the row of a matrix at an end, its value plus a number selects the element that gets a value.
     SelectsIn(Array, End, i64),
 }
@@ -48,44 +51,68 @@ impl Line {
     }
 }
 
-/// What is done with variables: in ascending order, each once.
-type Deeds = Vec<(u32, Deed)>;
+/// What is done with the variables and the arrays of a block.
+#[derive(Drop)]
+struct Deeds {
+    /// What is done with variables: in ascending order, each once.
+    of_variables: Vec<(u32, Deed)>,
+    /// Which elements of arrays get values that constants select: likewise.
+    at_constants: Vec<(Array, i64)>,
+}
 
 impl<'p, 't> Program<'p, 't> {
     /// What may hold in a block; it ascends.
     pub(crate) fn claims_in(&self, block: u32) -> Vec<Claim> {
-        let mut deeds = self.memory.none();
-        for event in row(&self.events, block) {
-            self.see(event, &mut deeds);
-        }
-        deeds.sort_unstable();
-        deeds.dedup();
+        let deeds = self.deeds_in(block);
         let mut claims = self.memory.none();
-        for (root, deed) in &deeds {
-            let own = deeds_of(&deeds, *root);
+        for (root, deed) in &deeds.of_variables {
+            let own = deeds_of(&deeds.of_variables, *root);
+            let index = End::variable(*root);
             match deed {
                 Deed::Selects(array, by) => {
                     let line = Line {
                         array: *array,
                         row: None,
                     };
-                    self.add_stretches(line, End::variable(*root).moved(*by), own, &mut claims);
+                    self.add_stretches(line, index.moved(*by), own, &mut claims);
                 }
                 Deed::SelectsIn(array, row, by) => {
                     let line = Line {
                         array: *array,
                         row: Some(*row),
                     };
-                    self.add_stretches(line, End::variable(*root).moved(*by), own, &mut claims);
+                    self.add_stretches(line, index.moved(*by), own, &mut claims);
                 }
-                Deed::Meets(other) => {
-                    Claim::Order(*root, *other).add_to(&self.memory, &mut claims);
-                    Claim::Order(*other, *root).add_to(&self.memory, &mut claims);
+                Deed::Begins(end) | Deed::Meets(end) => {
+                    if let Some(other) = end.root {
+                        Claim::Order(*root, other).add_to(&self.memory, &mut claims);
+                        Claim::Order(other, *root).add_to(&self.memory, &mut claims);
+                    }
                 }
                 _ => {}
             }
         }
+        self.add_runs(&deeds.at_constants, &mut claims);
         claims
+    }
+
+    fn deeds_in(&self, block: u32) -> Deeds {
+        let mut deeds = Deeds {
+            of_variables: self.memory.none(),
+            at_constants: self.memory.none(),
+        };
+        for event in row(&self.events, block) {
+            self.see(event, &mut deeds);
+        }
+        deeds.of_variables.sort_unstable();
+        deeds.of_variables.dedup();
+        deeds.at_constants.sort_unstable();
+        deeds.at_constants.dedup();
+        deeds
+    }
+
+    fn note(&self, deeds: &mut Deeds, root: u32, deed: Deed) {
+        self.memory.push(&mut deeds.of_variables, (root, deed));
     }
 
     // Notes what is done with variables by an event.
@@ -112,12 +139,22 @@ impl<'p, 't> Program<'p, 't> {
             } if matches!(link.operation, Dyadic::Relation(_)) => {
                 if let Some(one) = End::of(self.rows, first)
                     && let Some(other) = End::of(self.rows, &link.operand)
-                    && let (Some(root), Some(other)) = (one.root, other.root)
                 {
-                    self.memory.push(deeds, (root, Deed::Meets(other)));
+                    self.see_met(one, other, deeds);
+                    self.see_met(other, one, deeds);
                 }
             }
             _ => {}
+        }
+    }
+
+    // The value of a bound is compared with that of another.
+    fn see_met(&self, one: End, other: End, deeds: &mut Deeds) {
+        if let Some(root) = one.root
+            && other.root != one.root
+        {
+            let met = other.moved(one.number.saturating_neg());
+            self.note(deeds, root, Deed::Meets(met));
         }
     }
 
@@ -129,6 +166,10 @@ impl<'p, 't> Program<'p, 't> {
             && let Some(index) = End::of(self.rows, index)
         {
             self.see_index(array, index, deeds);
+            if index.root.is_none() {
+                self.memory
+                    .push(&mut deeds.at_constants, (array, index.number));
+            }
         }
         if let Some(matrix) = matrix_accessed(parts, access)
             && let [.., row, index] = indexes
@@ -137,8 +178,7 @@ impl<'p, 't> Program<'p, 't> {
         {
             self.see_index(matrix, row, deeds);
             if let Some(root) = index.root {
-                self.memory
-                    .push(deeds, (root, Deed::SelectsIn(matrix, row, index.number)));
+                self.note(deeds, root, Deed::SelectsIn(matrix, row, index.number));
             }
         }
     }
@@ -146,8 +186,7 @@ impl<'p, 't> Program<'p, 't> {
     // An element of an array gets a value at an index, or a part of the element.
     fn see_index(&self, array: Array, index: End, deeds: &mut Deeds) {
         if let Some(root) = index.root {
-            self.memory
-                .push(deeds, (root, Deed::Selects(array, index.number)));
+            self.note(deeds, root, Deed::Selects(array, index.number));
         }
     }
 
@@ -159,18 +198,12 @@ impl<'p, 't> Program<'p, 't> {
         let Some(root) = entire(target) else {
             return;
         };
-        match end.root {
-            None => {
-                self.memory.push(deeds, (root, Deed::Rises(end)));
-                self.memory.push(deeds, (root, Deed::Rises(end.moved(1))));
-            }
-            Some(other) if other != root => {
-                let back = End::variable(root).moved(end.number.saturating_neg());
-                self.memory.push(deeds, (other, Deed::Copied(back)));
-                self.memory.push(deeds, (other, Deed::Meets(root)));
-            }
-            _ => {}
-        }
+        let deed = match end.root {
+            Some(other) if other == root && end.number < 0 => Deed::Descends,
+            Some(other) if other == root => Deed::Ascends,
+            _ => Deed::Begins(end),
+        };
+        self.note(deeds, root, deed);
     }
 
     // A control variable goes from one bound to another.
@@ -179,8 +212,8 @@ impl<'p, 't> Program<'p, 't> {
             Direction::To => (Deed::Rises(first), Deed::Runs(first, last)),
             Direction::DownTo => (Deed::Falls(first), Deed::Runs(last, first)),
         };
-        self.memory.push(deeds, (head.control, begins));
-        self.memory.push(deeds, (head.control, runs));
+        self.note(deeds, head.control, begins);
+        self.note(deeds, head.control, runs);
     }
 
     // Stretches that a store at an index lengthens, by what is done with the variable of that: from where it rises up
@@ -197,33 +230,103 @@ impl<'p, 't> Program<'p, 't> {
             return;
         };
         let by = index.number;
-        let (mut indexes, mut lows, mut highs) = (memory.none(), memory.none(), memory.none());
-        memory.push(&mut indexes, index);
+        let (rises, falls) = directions(deeds);
+        let (mut lows, mut highs) = (memory.none(), memory.none());
         memory.push(&mut lows, End::constant(values.first()));
         memory.push(&mut highs, End::constant(values.last()));
         for (_, deed) in deeds {
             match deed {
-                Deed::Copied(back) => memory.push(&mut indexes, back.moved(by)),
                 Deed::Runs(low, high) => {
                     line.stretch(low.moved(by), high.moved(by))
                         .add_to(memory, claims);
                 }
                 Deed::Rises(low) => memory.push(&mut lows, low.moved(by)),
                 Deed::Falls(high) => memory.push(&mut highs, high.moved(by)),
-                Deed::Selects(..) | Deed::Meets(_) | Deed::SelectsIn(..) => {}
+                Deed::Begins(begin) => {
+                    let begin = begin.moved(by);
+                    if rises {
+                        memory.push(&mut lows, begin);
+                        memory.push(&mut lows, begin.moved(1));
+                    }
+                    if falls {
+                        memory.push(&mut highs, begin);
+                        memory.push(&mut highs, begin.moved(-1));
+                    }
+                }
+                _ => {}
             }
         }
         lows.retain(|low| low.root.is_some() || values.has(low.number));
-        for index in indexes {
-            for low in &lows {
-                line.stretch(*low, index.moved(-1)).add_to(memory, claims);
-                line.stretch(*low, index).add_to(memory, claims);
+        highs.retain(|high| high.root.is_some() || values.has(high.number));
+        for low in &lows {
+            line.stretch(*low, index.moved(-1)).add_to(memory, claims);
+            line.stretch(*low, index).add_to(memory, claims);
+        }
+        for high in &highs {
+            line.stretch(index.moved(1), *high).add_to(memory, claims);
+            if falls {
+                line.stretch(index, *high).add_to(memory, claims);
             }
-            for high in &highs {
-                line.stretch(index.moved(1), *high).add_to(memory, claims);
+        }
+        self.add_passed(line, by, deeds, claims);
+    }
+
+    // Stretches that a loop that steps an index fills, from where it begins to what it is compared with.
+    fn add_passed(&self, line: Line, by: i64, deeds: &[(u32, Deed)], claims: &mut Vec<Claim>) {
+        let (rises, falls) = directions(deeds);
+        for (_, deed) in deeds {
+            let Deed::Begins(begin) = deed else {
+                continue;
+            };
+            for (_, deed) in deeds {
+                let Deed::Meets(met) = deed else {
+                    continue;
+                };
+                let (begin, met) = (begin.moved(by), met.moved(by));
+                if rises {
+                    line.stretch(begin, met).add_to(&self.memory, claims);
+                    line.stretch(begin, met.moved(-1))
+                        .add_to(&self.memory, claims);
+                }
+                if falls {
+                    line.stretch(met, begin).add_to(&self.memory, claims);
+                    line.stretch(met.moved(1), begin)
+                        .add_to(&self.memory, claims);
+                }
             }
         }
     }
+
+    // The elements of arrays at constants, each with those right behind it.
+    fn add_runs(&self, constants: &[(Array, i64)], claims: &mut Vec<Claim>) {
+        let mut run: Option<(Array, i64, i64)> = None;
+        for (array, at) in constants {
+            run = match run {
+                Some((one, first, last)) if one == *array && *at == last.saturating_add(1) => Some((
+                    one, first, *at,
+                )),
+                _ => {
+                    self.add_run(run, claims);
+                    Some((*array, *at, *at))
+                }
+            };
+        }
+        self.add_run(run, claims);
+    }
+
+    fn add_run(&self, run: Option<(Array, i64, i64)>, claims: &mut Vec<Claim>) {
+        if let Some((array, first, last)) = run {
+            let claim = Claim::Defined(array, End::constant(first), End::constant(last), None);
+            claim.add_to(&self.memory, claims);
+        }
+    }
+}
+
+// Whether a variable rises and whether it falls by steps: one without any is taken to rise.
+fn directions(deeds: &[(u32, Deed)]) -> (bool, bool) {
+    let steps = |step| deeds.iter().any(|(_, deed)| *deed == step);
+    let falls = steps(Deed::Descends);
+    (!falls || steps(Deed::Ascends), falls)
 }
 
 // The first of the deeds of a variable.

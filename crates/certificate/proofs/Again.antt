@@ -1,11 +1,10 @@
 -- The line that says something is read again.
-use Rattle.std.proofs.Common.{◌≡◌, ℕ, suc, ℤ, pos, Bool, true, false, ◌&&◌, ◌||◌, nat_lt, int_le, int_lt, ◌==◌, List, [], ◌∷◌, ◌++◌, length}
+use Rattle.std.proofs.Common.{◌≡◌, ℕ, suc, ℤ, pos, Bool, true, false, ◌&&◌, ◌||◌, int_le, int_lt, List, [], ◌∷◌, ◌++◌, length}
 use Rattle.std.proofs.Common.{drop, nat_le, Ok, refl, ap, ◌∙◌, arith, decimal}
 use Rattle.std.specs.List.{flat_map, list_all}
 use Rattle.std.specs.Ordering.{int_eq}
 use Rattle.std.specs.Fmt.{signed_decimal}
 use Rattle.std.proofs.lemmas.Bool.{and_parts}
-use Rattle.std.proofs.lemmas.Bool.Decides.{nat_tests}
 use Rattle.std.proofs.lemmas.Int.{ints}
 use Rattle.std.proofs.lemmas.List.{append-nil}
 use Rattle.domain.specs.Interval.{Interval}
@@ -13,6 +12,10 @@ use Rattle.domain.specs.Facts.{Fact as VariableFact, Path, Span}
 use Rattle.domain.specs.Facts.{Range, Defined, Order, Grows}
 use Rattle.domain.specs.Versions.{most_spans}
 use Rattle.domain.specs.declared.versions.Version.{Version}
+use Rattle.text_lines.specs.Lines.{lines}
+use Rattle.text_lines.proofs.Bytes.{above_append, are_above}
+use Rattle.text_lines.proofs.Parting.{blank_found, blank_missed, drop_past, word_before}
+use Rattle.text_lines.proofs.TextLines.{lines_at}
 use Rattle.certificate.specs.Bounds.{bound_words, span_words}
 use Rattle.certificate.specs.declared.AliasPair.{AliasPair}
 use Rattle.certificate.specs.Building.{is_content, said_line}
@@ -21,14 +24,13 @@ use Rattle.certificate.specs.Lines.{Claim, Alias, Change, Entry, Exit, Fact, Con
 use Rattle.certificate.specs.Lines.{defined_at, defined_fact, fact_of, fact_words, line_of, order_fact, range_fact, range_of}
 use Rattle.certificate.specs.Lines.{reading, spanned_fact}
 use Rattle.certificate.specs.Paths.{path_words}
-use Rattle.certificate.specs.Text.{lines}
 use Rattle.certificate.specs.Words.{variable}
 use Rattle.certificate.proofs.GrowthLaws.{grow_above, grow_again}
 use Rattle.certificate.proofs.SpanLaws.{spans_above, spans_again}
 use Rattle.certificate.proofs.Numerals.{constant_again}
 use Rattle.certificate.proofs.PathLaws.{path_above, path_again}
-use Rattle.certificate.proofs.WordLaws.{are_above, above_append, blank_found, blank_missed, constant_above, drop_past, number_above, number_again}
-use Rattle.certificate.proofs.WordLaws.{parted_again, variable_above, word_before}
+use Rattle.certificate.proofs.WordLaws.{constant_above, number_above, number_again}
+use Rattle.certificate.proofs.WordLaws.{parted_again, variable_above}
 
 -- ---- facts
 
@@ -160,13 +162,6 @@ line_above : (version : Version) (content : Content) → is_content version cont
 line_above version (Block number) fits = number_above 10 number (omega arith) fits
 line_above version (Loop number) fits = number_above 10 number (omega arith) fits
 line_above version (Claimed claim) fits = claim_above version claim fits
-
-lines_at : (line rest : List ℕ) → are_above 10 line ≡ true → lines (line ++ 10 ∷ rest) ≡ record { bytes = line; ended = true } ∷ lines rest
-lines_at [] rest above = refl
-lines_at (byte ∷ line) rest above =
-    let parts = and_parts (nat_lt 10 byte) _ above in
-    let other : byte == 10 ≡ false = grind (arith, nat_tests) in
-    rw (other, lines_at line rest parts.1) refl
 
 -- a text that begins with a line that says something
 pub line_at : (version : Version) (content : Content) (rest : List ℕ) → is_content version content ≡ true

@@ -9,14 +9,18 @@ use Rattle.std.proofs.lemmas.Bool.Decides.{nat_tests}
 use Rattle.std.proofs.lemmas.Fmt.{digits_decimal}
 use Rattle.std.proofs.lemmas.List.{take-append-drop, take_at}
 use Rattle.domain.specs.Facts.{Bound, Number, Plus}
+use Rattle.text_lines.specs.Words.{behind}
+use Rattle.text_lines.proofs.Bytes.{above_append, are_above, byte_above}
+use Rattle.text_lines.proofs.Digits.{no_beginning, own}
+use Rattle.text_lines.proofs.Parting.{behind_some}
 use Rattle.certificate.specs.declared.words.LineFault.{LineFault}
 use Rattle.certificate.specs.declared.words.LineFault.TheVariants.{NotInGrammar}
 use Rattle.certificate.specs.Bounds.{bound_of, bound_words, is_sign, offset, offset_of, plus_at}
 use Rattle.certificate.specs.Contents.{is_bound, is_constant, is_small}
-use Rattle.certificate.specs.Words.{◌>>=◌, behind, both, constant_of, lowered_of, positive_of, variable, variable_of}
-use Rattle.certificate.proofs.Numerals.{behind_some, below_zero, bound_ok, constant_again, constant_spelled, lowered_again, lowered_read}
-use Rattle.certificate.proofs.Numerals.{negative_spelled, no_beginning, not_below_zero, ok_is, own, positive_again, positive_spelled, when_ok}
-use Rattle.certificate.proofs.WordLaws.{are_above, above_append, both_ok, byte_above, constant_above, small_is, variable_above, variable_again}
+use Rattle.certificate.specs.Words.{◌>>=◌, both, constant_of, lowered_of, positive_of, variable, variable_of}
+use Rattle.certificate.proofs.Numerals.{below_zero, bound_ok, constant_again, constant_small, constant_spelled, lowered_again, lowered_read}
+use Rattle.certificate.proofs.Numerals.{negative_spelled, not_below_zero, ok_is, positive_again, positive_spelled, when_ok}
+use Rattle.certificate.proofs.WordLaws.{both_ok, constant_above, small_is, variable_above, variable_again}
 use Rattle.certificate.proofs.WordLaws.{variable_spelled}
 
 -- ---- what is read is spelled so
@@ -118,7 +122,7 @@ plus_again root z sign rest small fits offset_is is =
 
 -- the word of a bound says that bound
 pub bound_again : (bound : Bound) → is_bound bound ≡ true → bound_of (bound_words bound) ≡ Ok bound
-bound_again (Number (pos n)) fits = rw (no_beginning 118 n refl fits, constant_again (pos n) fits) refl
+bound_again (Number (pos n)) fits = rw (no_beginning 118 n refl (constant_small n fits), constant_again (pos n) fits) refl
 bound_again (Number (negsuc n)) fits = rw (constant_again (negsuc n) fits) refl
 bound_again (Plus root (pos n)) fits =
     let parts = and_parts (is_small root) (is_constant (pos n)) fits in

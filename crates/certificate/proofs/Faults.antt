@@ -6,19 +6,21 @@ use Rattle.std.specs.List.{flat_map, list_all}
 use Rattle.std.proofs.lemmas.Bool.{and_from, and_parts}
 use Rattle.domain.specs.declared.versions.Version.{Version}
 use Rattle.domain.specs.declared.versions.Version.TheVariants.{One, Two}
+use Rattle.text_lines.specs.Lines.{Line, ended, lines}
+use Rattle.text_lines.specs.Numerals.{is_number}
+use Rattle.text_lines.proofs.Digits.{decimal-is_number}
 use Rattle.certificate.specs.Lines.{Claim, Alias, Change, Entry, Exit, Fact, Content, Block, Loop, Claimed}
 use Rattle.certificate.specs.Text.{Above}
 use Rattle.certificate.specs.declared.fault.ReadFault.{ReadFault}
 use Rattle.certificate.specs.declared.fault.ReadFault.TheVariants.{OutOfOrder}
 use Rattle.certificate.specs.Building.{is_content, said_line}
 use Rattle.std.specs.Str.{bytes_eq}
-use Rattle.certificate.specs.Contents.{ended, heading, is_small}
-use Rattle.certificate.specs.Words.{is_number}
+use Rattle.certificate.specs.Contents.{heading, is_small}
 use Rattle.certificate.specs.Lines.{line_of, reading}
-use Rattle.certificate.specs.Text.{Line, admits, below, fault_from, has_below, is_heading, lines, or_else}
+use Rattle.certificate.specs.Text.{admits, below, fault_from, has_below, is_heading, or_else}
 use Rattle.certificate.proofs.Again.{line_again, line_at}
 use Rattle.certificate.proofs.InOrder.{has_line, orderly}
-use Rattle.certificate.proofs.Numerals.{decimal-is_number, ok_is}
+use Rattle.certificate.proofs.Numerals.{ok_is}
 use Rattle.certificate.proofs.WordLaws.{small_is}
 
 heading_number : (n : ℕ) → is_small n ≡ true → is_number (decimal n) ≡ true

@@ -8,13 +8,14 @@ use Rattle.domain.specs.Versions.{has}
 use Rattle.domain.specs.declared.growth.Growth.{Growth}
 use Rattle.domain.specs.declared.versions.Extension.TheVariants.{Growths}
 use Rattle.domain.specs.declared.versions.Version.{Version}
+use Rattle.text_lines.proofs.Bytes.{above_append, are_above}
 use Rattle.certificate.specs.declared.words.LineFault.{LineFault}
 use Rattle.certificate.specs.declared.words.LineFault.TheVariants.{NotInGrammar, OutOfRange}
 use Rattle.certificate.specs.Contents.{is_constant, is_fact, is_growth, is_small}
 use Rattle.certificate.specs.Lines.{ascends, fact_words, grow_fact, growing_fact, growth_between, growth_of, growth_words, numbers_of}
 use Rattle.certificate.specs.Words.{◌>>=◌, both, constant_of, parted, variable, variable_of}
 use Rattle.certificate.proofs.Numerals.{bound_ok, constant_again, constant_spelled, ok_is}
-use Rattle.certificate.proofs.WordLaws.{above_append, are_above, both_ok, constant_above, number_above, number_again, parted_again, parted_spelled}
+use Rattle.certificate.proofs.WordLaws.{both_ok, constant_above, number_above, number_again, parted_again, parted_spelled}
 use Rattle.certificate.proofs.WordLaws.{variable_above, variable_spelled}
 
 -- a text in two parts, which spell something

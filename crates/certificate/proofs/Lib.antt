@@ -6,7 +6,6 @@ pub mod GrowthLaws
 pub mod InOrder
 pub mod LastChanged
 pub mod Nested
-pub mod Numbers
 pub mod Numerals
 pub mod PathLaws
 pub mod Pieces
@@ -14,7 +13,6 @@ pub mod Reading
 pub mod Seen
 pub mod SpanLaws
 pub mod Spelled
-pub mod TextLines
 pub mod Whole
 pub mod WordLaws
 pub mod Written

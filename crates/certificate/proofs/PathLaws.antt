@@ -11,14 +11,18 @@ use Rattle.std.proofs.lemmas.Fmt.{digits_decimal}
 use Rattle.std.proofs.lemmas.List.{append-nil}
 use Rattle.std.proofs.lemmas.Slice.Eq.{bytes_eq-Decides}
 use Rattle.domain.specs.Facts.{Step, Path, Elements, Field}
+use Rattle.text_lines.specs.Words.{behind}
+use Rattle.text_lines.proofs.Bytes.{above_append, are_above, byte_above}
+use Rattle.text_lines.proofs.Digits.{own}
+use Rattle.text_lines.proofs.Parting.{behind_some}
 use Rattle.certificate.specs.declared.words.LineFault.{LineFault}
 use Rattle.certificate.specs.declared.words.LineFault.TheVariants.{NotInGrammar}
 use Rattle.certificate.specs.Contents.{is_path, is_small, is_step}
 use Rattle.certificate.specs.Paths.{begins_step, cut, is_name, is_name_byte, is_piece, is_piece_behind, path_of, path_words, step_behind, step_in, step_words}
 use Rattle.certificate.specs.Paths.{steps_of}
-use Rattle.certificate.specs.Words.{◌>>=◌, behind, both, variable, variable_of}
-use Rattle.certificate.proofs.Numerals.{behind_some, bound_ok, ok_is, own}
-use Rattle.certificate.proofs.WordLaws.{are_above, above_append, both_ok, byte_above, small_is, variable_above, variable_again, variable_spelled}
+use Rattle.certificate.specs.Words.{◌>>=◌, both, variable, variable_of}
+use Rattle.certificate.proofs.Numerals.{bound_ok, ok_is}
+use Rattle.certificate.proofs.WordLaws.{both_ok, small_is, variable_above, variable_again, variable_spelled}
 
 -- ---- what is read is spelled so
 

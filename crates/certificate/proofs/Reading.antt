@@ -4,12 +4,13 @@ use Rattle.std.specs.List.{list_all}
 use Rattle.std.proofs.lemmas.Bool.{and_from, and_parts}
 use Rattle.std.proofs.lemmas.List.{append-nil}
 use Rattle.domain.specs.declared.versions.Version.{Version}
+use Rattle.text_lines.specs.Lines.{Line}
 use Rattle.certificate.specs.Text.{Above}
 use Rattle.certificate.specs.declared.fault.ReadFault.{ReadFault}
 use Rattle.certificate.specs.Building.{added, built, is_content, said_line}
 use Rattle.certificate.specs.Contents.{Section}
 use Rattle.certificate.specs.Lines.{Content, line_of, reading}
-use Rattle.certificate.specs.Text.{Line, below, below_line, fault_from, line_fault, nothing, or_else}
+use Rattle.certificate.specs.Text.{below, below_line, fault_from, line_fault, nothing, or_else}
 use Rattle.certificate.proofs.Nested.{built-append}
 use Rattle.certificate.proofs.Spelled.{line_spelled}
 

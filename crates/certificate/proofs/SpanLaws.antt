@@ -10,14 +10,16 @@ use Rattle.domain.specs.Facts.{Bound, Span}
 use Rattle.domain.specs.Versions.{has, most_spans}
 use Rattle.domain.specs.declared.versions.Extension.TheVariants.{Blocks}
 use Rattle.domain.specs.declared.versions.Version.{Version}
+use Rattle.text_lines.proofs.Bytes.{above_append, are_above, byte_above}
+use Rattle.text_lines.proofs.Parting.{blank_found, blank_missed, drop_past, front_part, word_before}
 use Rattle.certificate.specs.declared.words.LineFault.{LineFault}
 use Rattle.certificate.specs.declared.words.LineFault.TheVariants.{NotInGrammar, OutOfRange}
 use Rattle.certificate.specs.Bounds.{bound_of, bound_words, span_of, span_words, spans_at, spans_of, span_and, spans_up_to}
 use Rattle.certificate.specs.Contents.{are_spans, is_bound, is_span}
 use Rattle.certificate.specs.Words.{both, parted}
 use Rattle.certificate.proofs.Numerals.{bound_ok, ok_is}
-use Rattle.certificate.proofs.WordLaws.{are_above, above_append, both_ok, byte_above, blank_found, blank_missed, drop_past, front_part, parted_again}
-use Rattle.certificate.proofs.WordLaws.{parted_spelled, word_before}
+use Rattle.certificate.proofs.WordLaws.{both_ok, parted_again}
+use Rattle.certificate.proofs.WordLaws.{parted_spelled}
 use Rattle.certificate.proofs.BoundLaws.{bound_above, bound_again, bound_spelled}
 
 span_spelled : (first last : List ℕ) (span : Span) → span_of first last ≡ Ok span

@@ -14,6 +14,8 @@ use Rattle.domain.specs.Facts.{Fact as VariableFact, Path, Span}
 use Rattle.domain.specs.Facts.{Range, Defined, Order}
 use Rattle.domain.specs.Versions.{most_spans}
 use Rattle.domain.specs.declared.versions.Version.{Version}
+use Rattle.text_lines.specs.Words.{behind}
+use Rattle.text_lines.proofs.Parting.{behind_some, front_part}
 use Rattle.certificate.specs.declared.words.LineFault.{LineFault}
 use Rattle.certificate.specs.declared.words.LineFault.TheVariants.{NotInGrammar, OutOfRange}
 use Rattle.certificate.specs.Bounds.{spans_of}
@@ -24,12 +26,12 @@ use Rattle.certificate.specs.Lines.{Claim, Alias, Change, Entry, Exit, Fact, Con
 use Rattle.certificate.specs.Lines.{defined_at, defined_fact, fact_of, fact_words, grow_fact, line_of, order_fact, range_fact, range_of}
 use Rattle.certificate.specs.Lines.{reading, spanned_fact}
 use Rattle.certificate.specs.Paths.{path_of, path_words}
-use Rattle.certificate.specs.Words.{◌>>=◌, behind, both, constant_of, number_of, parted, variable, variable_of, when}
+use Rattle.certificate.specs.Words.{◌>>=◌, both, constant_of, number_of, parted, variable, variable_of, when}
 use Rattle.certificate.proofs.GrowthLaws.{grow_spelled}
 use Rattle.certificate.proofs.SpanLaws.{spans_spelled}
-use Rattle.certificate.proofs.Numerals.{behind_some, bound_ok, constant_spelled, ok_is, when_ok}
+use Rattle.certificate.proofs.Numerals.{bound_ok, constant_spelled, ok_is, when_ok}
 use Rattle.certificate.proofs.PathLaws.{path_spelled}
-use Rattle.certificate.proofs.WordLaws.{both_ok, front_part, number_spelled, parted_spelled, variable_spelled}
+use Rattle.certificate.proofs.WordLaws.{both_ok, number_spelled, parted_spelled, variable_spelled}
 
 -- ---- facts
 

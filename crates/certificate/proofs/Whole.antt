@@ -7,19 +7,20 @@ use Rattle.std.specs.Result.{IsErrAnd}
 use Rattle.std.specs.Str.{bytes_eq}
 use Rattle.std.proofs.lemmas.Slice.Eq.{bytes_eq-Decides}
 use Rattle.memory.specs.Refused.{the_refusal}
+use Rattle.text_lines.specs.Lines.{Line, ended, lines}
+use Rattle.text_lines.proofs.TextLines.{unlines, unlines-lines}
 use Rattle.certificate.specs.declared.Certificate.{Certificate}
 use Rattle.domain.specs.declared.versions.Version.{Version}
 use Rattle.domain.specs.declared.versions.Version.TheVariants.{One, Two}
 use Rattle.certificate.specs.declared.fault.ReadFault.{ReadFault}
 use Rattle.certificate.specs.declared.fault.ReadFault.TheVariants as fault
 use Rattle.certificate.specs.Building.{built, is_content, said_line}
-use Rattle.certificate.specs.Contents.{IsReadAs, Section, are_in_order, lines_of, ended, heading, spelling}
+use Rattle.certificate.specs.Contents.{IsReadAs, Section, are_in_order, lines_of, heading, spelling}
 use Rattle.certificate.specs.Lines.{Content, line_of}
-use Rattle.certificate.specs.Text.{Line, fault_behind, fault_from, fault_of_lines, first_fault, lines, nothing, version_of}
+use Rattle.certificate.specs.Text.{fault_behind, fault_from, fault_of_lines, first_fault, nothing, version_of}
 use Rattle.certificate.proofs.Faults.{faultless-orderly, lines_again, orderly-faultless, orderly-fits, same_lines}
 use Rattle.certificate.proofs.InOrder.{in_order, orderly}
 use Rattle.certificate.proofs.Nested.{built_again, lines_of_sections}
-use Rattle.certificate.proofs.TextLines.{unlines, unlines-lines}
 
 version_is : (named version : Version) → (let a : Result Version ReadFault = Ok named in a ≡ Ok version) → named ≡ version
 version_is named version same = cc

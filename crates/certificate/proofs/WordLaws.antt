@@ -1,21 +1,22 @@
 -- Numbers, variables and the parts of a line, as they are spelled and read.
-use Rattle.std.proofs.Common.{◌≡◌, ℕ, suc, ◌+◌, ◌-◌, ◌^◌, ◌<◌, ◌≤◌, ℤ, pos, negsuc, Bool, true, false, nat_lt, ◌==◌, List, [], ◌∷◌, ◌++◌, length}
-use Rattle.std.proofs.Common.{take, drop, get_or, Option, Some, None, Result, Ok, Err, refl, sym, ap, ◌∙◌, arith, inl, inr, decimal, codes}
-use Rattle.std.specs.List.{list_all, position, position_or_len}
-use Rattle.std.specs.Char.{is_ascii_digit}
+use Rattle.std.proofs.Common.{◌≡◌, ℕ, suc, ◌+◌, ◌-◌, ◌<◌, ◌≤◌, ℤ, pos, negsuc, true, List, ◌∷◌, ◌++◌, length}
+use Rattle.std.proofs.Common.{take, drop, Result, Ok, Err, ap, ◌∙◌, arith, inl, inr, decimal, codes}
+use Rattle.std.specs.Option.{ok_or}
 use Rattle.std.specs.Fmt.{signed_decimal}
-use Rattle.std.proofs.lemmas.Bool.{and_from, and_parts, eqb-true, lt-ltb}
+use Rattle.std.proofs.lemmas.Bool.{and_from}
 use Rattle.std.proofs.lemmas.Bool.Decides.{nat_tests}
-use Rattle.std.proofs.lemmas.Fmt.{digits_decimal}
 use Rattle.std.proofs.lemmas.Grind.{common_steps}
 use Rattle.std.proofs.lemmas.Int.{ints}
-use Rattle.std.proofs.lemmas.List.Quantifiers.{position-Some}
-use Rattle.std.proofs.lemmas.List.{drop_more, length-append, take-append-drop, take_at}
+use Rattle.text_lines.specs.Words as text
+use Rattle.text_lines.specs.Words.{behind}
+use Rattle.text_lines.proofs.Bytes.{are_above, byte_above}
+use Rattle.text_lines.proofs.Digits.{decimal_above}
+use Rattle.text_lines.proofs.Parting.{behind_some, parted-again, parted-spelled}
 use Rattle.certificate.specs.declared.words.LineFault.{LineFault}
 use Rattle.certificate.specs.declared.words.LineFault.TheVariants.{NotInGrammar, OutOfRange}
 use Rattle.certificate.specs.Contents.{is_constant, is_small}
-use Rattle.certificate.specs.Words.{behind, both, most, number_of, parted, parted_at, variable, variable_of}
-use Rattle.certificate.proofs.Numerals.{at_most-again, at_most-spelled, behind_some, constant_is, ok_is, own, when_ok}
+use Rattle.certificate.specs.Words.{both, most, number_of, parted, variable, variable_of}
+use Rattle.certificate.proofs.Numerals.{at_most-again, at_most-spelled, constant_is, found, ok_is, when_ok}
 
 -- ---- what is read is spelled so
 
@@ -47,52 +48,13 @@ both_ok (Err NotInGrammar) b x y e = absurd cc
 both_ok (Err OutOfRange) (Ok b) x y e = absurd cc
 both_ok (Err OutOfRange) (Err fault) x y e = absurd cc
 
-one_more : (n : ℕ) → n + 1 ≡ suc n
-one_more n = omega arith
-
-pub front_part : (words : List ℕ) (o : Option ℕ) (a b : List ℕ) → position (λ byte. byte == 32) words ≡ o → parted_at words o ≡ Ok (a, b)
-    → words ≡ a ++ 32 ∷ b
-front_part words None a b is e = absurd cc
-front_part words (Some end) a b is e =
-    let found = position-Some (λ byte. byte == 32) words end 0 is in
-    let same = ok_is (take end words, drop (suc end) words) (a, b) e in
-    let tail : drop end words ≡ get_or words end 0 ∷ drop (suc end) words =
-    drop_more words end 0 found.0 ∙ ap (λ k. get_or words end 0 ∷ drop k words) (one_more end) in
-    let whole : words ≡ take end words ++ get_or words end 0 ∷ drop (suc end) words =
-    sym (take-append-drop end words) ∙ ap (λ rest. take end words ++ rest) tail in
-    whole ∙ ap (λ byte. take end words ++ byte ∷ drop (suc end) words) (eqb-true _ 32 found.1) ∙ ap (λ p. p.0 ++ 32 ∷ p.1) same
-
 pub parted_spelled : (words a b : List ℕ) → parted words ≡ Ok (a, b) → words ≡ a ++ 32 ∷ b
-parted_spelled words a b e = front_part words _ a b refl e
+parted_spelled words a b e = parted-spelled words a b (found (text.parted words) NotInGrammar (a, b) e)
 
 -- ---- the bytes of a line
 
--- each byte of a text is above a limit
-abbrev pub are_above : ℕ → List ℕ → Bool
-are_above limit text = list_all (nat_lt limit) text
-
-pub above_append : (limit : ℕ) (front back : List ℕ) → are_above limit front ≡ true → are_above limit back ≡ true → are_above limit (front ++ back) ≡ true
-above_append limit [] back f b = b
-above_append limit (byte ∷ front) back f b =
-    let parts = and_parts (nat_lt limit byte) _ f in and_from _ _ parts.0 (above_append limit front back parts.1 b)
-
-pub digit_above : (limit byte : ℕ) → limit < 48 → is_ascii_digit byte ≡ true → nat_lt limit byte ≡ true
-digit_above limit byte low digit = grind (arith, nat_tests)
-
-pub digits_above : (limit : ℕ) (word : List ℕ) → limit < 48 → list_all is_ascii_digit word ≡ true → are_above limit word ≡ true
-digits_above limit [] low digits = refl
-digits_above limit (byte ∷ more) low digits =
-    let parts = and_parts (is_ascii_digit byte) _ digits in
-    and_from _ _ (digit_above limit byte low parts.0) (digits_above limit more low parts.1)
-
-pub decimal_above : (limit n : ℕ) → limit < 48 → n < 2 ^ 64 → are_above limit (decimal n) ≡ true
-decimal_above limit n low small = digits_above limit (decimal n) low (digits_decimal own n small)
-
 pub number_above : (limit n : ℕ) → limit < 48 → is_small n ≡ true → are_above limit (decimal n) ≡ true
 number_above limit n low small = let most = small_is n small in decimal_above limit n low (omega arith)
-
-pub byte_above : (limit byte : ℕ) → limit < byte → nat_lt limit byte ≡ true
-byte_above limit byte low = lt-ltb limit byte low
 
 pub variable_above : (limit n : ℕ) → limit < 48 → is_small n ≡ true → are_above limit (variable n) ≡ true
 variable_above limit n low small = and_from _ _ (byte_above limit 118 (omega arith)) (number_above limit n low small)
@@ -105,44 +67,11 @@ constant_above limit (negsuc n) low fits =
 
 -- ---- words
 
-blank_at : (word rest : List ℕ) → are_above 32 word ≡ true → position_or_len (λ byte. byte == 32) (word ++ 32 ∷ rest) ≡ length word
-blank_at [] rest above = refl
-blank_at (byte ∷ word) rest above =
-    let parts = and_parts (nat_lt 32 byte) _ above in
-    let other : byte == 32 ≡ false = grind (arith, nat_tests) in
-    rw (other, blank_at word rest parts.1) (omega arith)
-
-pub drop_past : (word rest : List ℕ) → drop (suc (length word)) (word ++ 32 ∷ rest) ≡ rest
-drop_past [] rest = refl
-drop_past (byte ∷ word) rest = drop_past word rest
-
-pub blank_found : (word rest : List ℕ) → are_above 32 word ≡ true → position (λ byte. byte == 32) (word ++ 32 ∷ rest) ≡ Some (length word)
-blank_found word rest above =
-    let inside : nat_lt (length word) (length (word ++ 32 ∷ rest)) ≡ true = lt-ltb _ _ (omega (arith, length-append word (32 ∷ rest))) in
-    rw (blank_at word rest above, inside) refl
-
 pub word_behind : (words : List ℕ) (end : ℕ) → take (length words - (end + 1)) (drop (end + 1) words) ≡ drop (suc end) words
 word_behind words end = grind (arith, common_steps)
 
-pub word_before : (word rest : List ℕ) → take (length word) (word ++ 32 ∷ rest) ≡ word
-word_before word rest = take_at word (32 ∷ rest) (length word) refl
-
 pub parted_again : (word rest : List ℕ) → are_above 32 word ≡ true → parted (word ++ 32 ∷ rest) ≡ Ok (word, rest)
-parted_again word rest above =
-    ap (parted_at (word ++ 32 ∷ rest)) (blank_found word rest above) ∙ rw (word_before word rest, drop_past word rest) refl
-
-blank_none : (word : List ℕ) → are_above 32 word ≡ true → position_or_len (λ byte. byte == 32) word ≡ length word
-blank_none [] above = refl
-blank_none (byte ∷ word) above =
-    let parts = and_parts (nat_lt 32 byte) _ above in
-    let other : byte == 32 ≡ false = grind (arith, nat_tests) in
-    rw (other, blank_none word parts.1) (omega arith)
-
-not_within : (n : ℕ) → nat_lt n n ≡ false
-not_within n = grind (arith, nat_tests)
-
-pub blank_missed : (word : List ℕ) → are_above 32 word ≡ true → position (λ byte. byte == 32) word ≡ None
-blank_missed word above = rw (blank_none word above, not_within (length word)) refl
+parted_again word rest above = ap (λ parts. ok_or parts NotInGrammar) (parted-again word rest above)
 
 pub number_again : (n : ℕ) → is_small n ≡ true → number_of (decimal n) ≡ Ok n
 number_again n small = let limit = small_is n small in at_most-again most n limit (omega arith)

@@ -3,8 +3,9 @@ use Rattle.std.proofs.Common.{◌≡◌, ℕ, List, [], ◌∷◌, ◌++◌, ◌
 use Rattle.std.specs.List.{flat_map}
 use Rattle.std.proofs.lemmas.Grind.{flat_map-append}
 use Rattle.domain.specs.declared.versions.Version.{Version}
+use Rattle.text_lines.specs.Lines.{ended}
 use Rattle.certificate.specs.Lines.{Claim, Alias, Change, Entry, Exit, Fact, Content, Block, Loop, Claimed, claim_words, line_of}
-use Rattle.certificate.specs.Contents.{LoopClaims, Section, claims_of_block, claims_of_loop, ended, heading, lines_of, lines_of_loop}
+use Rattle.certificate.specs.Contents.{LoopClaims, Section, claims_of_block, claims_of_loop, heading, lines_of, lines_of_loop}
 use Rattle.certificate.specs.Contents.{lines_of_section, spelling}
 use Rattle.certificate.specs.Writing.{alias_line, change_line, fact_line, loop_text, section_text}
 

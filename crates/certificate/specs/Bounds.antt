@@ -7,9 +7,10 @@ use Rattle.std.specs.List.{position_or_len}
 use Rattle.domain.specs.Facts.{Bound, Number, Plus, Span}
 use Rattle.domain.specs.Versions.{most_spans}
 use Rattle.domain.specs.declared.versions.Version.{Version}
+use Rattle.text_lines.specs.Words.{behind}
 use Rattle.certificate.specs.declared.words.LineFault.{LineFault}
 use Rattle.certificate.specs.declared.words.LineFault.TheVariants.{NotInGrammar}
-use Rattle.certificate.specs.Words.{◌>>=◌, behind, both, constant_of, lowered_of, parted, positive_of, variable}
+use Rattle.certificate.specs.Words.{◌>>=◌, both, constant_of, lowered_of, parted, positive_of, variable}
 use Rattle.certificate.specs.Words.{variable_of, when}
 
 -- ---- how bounds are spelled

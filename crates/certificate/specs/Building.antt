@@ -9,6 +9,7 @@ use Rattle.domain.specs.Interval.{between}
 use Rattle.domain.specs.Facts.{Step, Path, Range, Defined, Order, Grows, said_spans}
 use Rattle.domain.specs.Facts.{Fact as VariableFact}
 use Rattle.domain.specs.declared.versions.Version.{Version}
+use Rattle.text_lines.specs.Lines.{Line}
 use Rattle.certificate.specs.declared.Section.{Section as KeptSection}
 use Rattle.certificate.specs.declared.paths.PathWord.{PathWord}
 use Rattle.certificate.specs.declared.fact_words.FactWords.{FactWords}
@@ -24,7 +25,7 @@ use Rattle.certificate.specs.Paths.{cut, step_in}
 use Rattle.certificate.specs.Lines.{Claim, Alias, Change, Entry, Exit, Fact, Content, Block, Loop, Claimed, line_of}
 use Rattle.certificate.specs.Lines.{reading}
 use Rattle.certificate.specs.Contents.{LoopClaims, Section, is_claim, is_empty, is_small, section_of}
-use Rattle.certificate.specs.Text.{Above, Line, fault_from, line_fault, nothing}
+use Rattle.certificate.specs.Text.{Above, fault_from, line_fault, nothing}
 
 -- ---- what is read, as the definitions see it
 

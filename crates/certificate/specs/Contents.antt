@@ -17,6 +17,7 @@ use Rattle.domain.specs.declared.growth.Growth.{Growth}
 use Rattle.domain.specs.declared.versions.Extension.TheVariants.{Growths}
 use Rattle.domain.specs.declared.versions.Version.{Version}
 use Rattle.domain.specs.declared.versions.Version.TheVariants.{One, Two}
+use Rattle.text_lines.specs.Lines.{ended}
 use Rattle.certificate.specs.declared.AliasPair.{AliasPair}
 use Rattle.certificate.specs.declared.Certificate.{Certificate}
 use Rattle.certificate.specs.declared.Section.{Section as KeptSection}
@@ -226,10 +227,6 @@ lines_of sections = flat_map lines_of_section sections
 abbrev pub heading : Version → List ℕ
 heading One = codes "pcert 1"
 heading Two = codes "pcert 2"
-
--- a line with its end
-abbrev pub ended : List ℕ → List ℕ
-ended line = line ++ 10 ∷ []
 
 -- the text of a certificate
 abbrev pub spelling : Version → List Section → List ℕ

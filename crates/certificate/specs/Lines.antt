@@ -13,10 +13,11 @@ use Rattle.domain.specs.Versions.{has}
 use Rattle.domain.specs.declared.growth.Growth.{Growth}
 use Rattle.domain.specs.declared.versions.Extension.TheVariants.{Growths}
 use Rattle.domain.specs.declared.versions.Version.{Version}
+use Rattle.text_lines.specs.Words.{behind}
 use Rattle.certificate.specs.declared.AliasPair.{AliasPair}
 use Rattle.certificate.specs.declared.words.LineFault.{LineFault}
 use Rattle.certificate.specs.declared.words.LineFault.TheVariants.{NotInGrammar, OutOfRange}
-use Rattle.certificate.specs.Words.{◌>>=◌, behind, both, constant_of, number_of, parted, variable, variable_of, when}
+use Rattle.certificate.specs.Words.{◌>>=◌, both, constant_of, number_of, parted, variable, variable_of, when}
 use Rattle.certificate.specs.Paths.{path_of, path_words}
 use Rattle.certificate.specs.Bounds.{span_words, spans_of}
 

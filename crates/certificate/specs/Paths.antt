@@ -6,9 +6,10 @@ use Rattle.std.specs.Str.{bytes_eq}
 use Rattle.std.specs.Char.{is_ascii_digit, is_ascii_lowercase}
 use Rattle.std.specs.List.{flat_map, list_all}
 use Rattle.domain.specs.Facts.{Step, Path, Elements, Field}
+use Rattle.text_lines.specs.Words.{behind}
 use Rattle.certificate.specs.declared.words.LineFault.{LineFault}
 use Rattle.certificate.specs.declared.words.LineFault.TheVariants.{NotInGrammar}
-use Rattle.certificate.specs.Words.{◌>>=◌, behind, both, variable, variable_of}
+use Rattle.certificate.specs.Words.{◌>>=◌, both, variable, variable_of}
 
 -- ---- how a path is spelled
 

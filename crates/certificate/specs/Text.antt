@@ -1,36 +1,22 @@
 -- The lines of a text, and the first fault of one that is no certificate's. ISO 7185:1990 knows no certificates. It
 -- does not say what a certificate claims of a program.
-use Rattle.std.specs.Prelude.{ℕ, suc, Bool, true, false, not, ◌&&◌, if◌then◌else◌, ◌==◌, List, [], ◌∷◌, Option, Some}
+use Rattle.std.specs.Prelude.{ℕ, suc, Bool, true, false, not, ◌&&◌, if◌then◌else◌, List, [], ◌∷◌, Option, Some}
 use Rattle.std.specs.Prelude.{None, Result, Ok, Err, codes}
 use Rattle.std.specs.Str.{bytes_eq}
 use Rattle.std.specs.Option.{is_some}
 use Rattle.std.specs.Ordering.{nat_cmp}
+use Rattle.text_lines.specs.Lines.{Line, lines}
 use Rattle.domain.specs.declared.versions.Version.{Version}
 use Rattle.domain.specs.declared.versions.Version.TheVariants.{One, Two}
+use Rattle.text_lines.specs.Numerals.{is_number}
+use Rattle.text_lines.specs.Words.{behind}
 use Rattle.certificate.specs.declared.words.LineFault.{LineFault}
 use Rattle.certificate.specs.declared.words.LineFault.TheVariants as line
 use Rattle.certificate.specs.declared.fault.ReadFault.{ReadFault}
 use Rattle.certificate.specs.declared.fault.ReadFault.TheVariants.{FirstLine, NotInGrammar, OutOfOrder, OutOfRange}
 use Rattle.certificate.specs.declared.fault.ReadFault.TheVariants.{Unended}
-use Rattle.certificate.specs.Words.{behind, is_number}
 use Rattle.certificate.specs.Lines.{Claim, Content, Block, Loop, Claimed, reading}
 use Rattle.certificate.specs.Contents.{claim_order, comes_behind, heading, may_stand}
-
--- a line of a text: its bytes, and whether byte 10 ends it
-pub record Line : Type 0 where
-  pub bytes : List ℕ
-  pub ended : Bool
-
--- a line with one more byte at its front, the first of the given lines if there is one
-abbrev pub with_front : ℕ → List Line → List Line
-with_front byte [] = record { bytes = byte ∷ []; ended = false } ∷ []
-with_front byte (line ∷ more) = record { bytes = byte ∷ line.bytes; ended = line.ended } ∷ more
-
--- the lines of a text: byte 10 ends a line, and what stands behind the last one is a line if it has a byte
-abbrev pub lines : List ℕ → List Line
-lines [] = []
-lines (byte ∷ more) =
-    if byte == 10 then record { bytes = []; ended = true } ∷ lines more else with_front byte (lines more)
 
 -- ---- where a line may stand
 

@@ -1,17 +1,12 @@
--- How a writer of certificates comes from line to line: words of private functions alone. It does not say how a
--- certificate is spelled.
-use Rattle.std.specs.Prelude.{◌≡◌, ℕ, None, List, ◌++◌, codes}
+-- The lines that a writer of certificates puts one behind the other: words of private functions alone. It does not say
+-- how a certificate is spelled.
+use Rattle.std.specs.Prelude.{ℕ, List, ◌++◌, codes}
 use Rattle.std.specs.List.{flat_map}
 use Rattle.domain.specs.Facts.{Fact as VariableFact}
+use Rattle.text_lines.specs.Lines.{ended}
 use Rattle.certificate.specs.declared.AliasPair.{AliasPair}
-use Rattle.certificate.specs.declared.writer.Writer.{Writer}
 use Rattle.certificate.specs.Lines.{Alias, Change, Block, Loop, claim_words, fact_words, line_of}
-use Rattle.certificate.specs.Contents.{LoopClaims, Section, ended}
-
--- bytes are appended to a text, unless memory ran out
-abbrev pub Appends : List ℕ → (old new : Writer) → Type 0
-Appends bytes old new =
-    new.refused ≡ None → (old.refused ≡ None) × (new.text.items ≡ old.text.items ++ bytes)
+use Rattle.certificate.specs.Contents.{LoopClaims, Section}
 
 -- the lines of claims
 abbrev pub alias_line : AliasPair → List ℕ

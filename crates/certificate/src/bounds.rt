@@ -5,11 +5,10 @@ ghost use Rattle.domain.specs.Facts.{said_bound, said_span, said_spans};
 ghost use Rattle.certificate.specs.Bounds as spec;
 ghost use Rattle.certificate.specs.Bounds.{is_sign};
 
-use crate::words::{
-    LineFault, blank, both, constant_of, lowered_of, parted, positive_of, variable_of,
-};
+use crate::words::{LineFault, both, constant_of, lowered_of, parted, positive_of, variable_of};
 use domain::facts::{Bound, Span, Spans};
 use domain::versions::{Extension, Version};
+use text_lines::words::blank;
 
 /// The spans that words tell in a certificate of a version: one, or two where the version has blocks.
 pub(crate) fn spans_of(version: Version, words: &[u8]) -> Result<Spans, LineFault>

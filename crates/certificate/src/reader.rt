@@ -1,8 +1,9 @@
-ghost use Rattle.std.specs.Prelude.{◌≡◌, ◌≢◌, ◌==◌, ◌<◌, IsTrue, List, [], ◌∷◌, IfOk, length, MatchOption, position};
+ghost use Rattle.std.specs.Prelude.{◌≡◌, ◌≢◌, IsTrue, List, IfOk};
 ghost use Rattle.std.specs.Result.{result_err};
+ghost use Rattle.text_lines.specs.Lines.{lines};
 ghost use Rattle.certificate.specs.Building.{AreRead, IsContentAt, said_above, said_content};
 ghost use Rattle.certificate.specs.Contents.{IsReadAs, Section as Said, Spells, are_in_order, heading, spelling};
-ghost use Rattle.certificate.specs.Text.{Line as TextLine, first_fault, has_below, is_heading, lines, version_of};
+ghost use Rattle.certificate.specs.Text.{first_fault, has_below, is_heading, version_of};
 ghost use Rattle.domain.specs.declared.versions.Version.{Version as TextVersion};
 ghost use Rattle.memory.specs.Refused.{the_refusal};
 ghost use Rattle.certificate.specs.declared.fault.ReadFault.TheVariants.{Memory};
@@ -11,17 +12,12 @@ use crate::building::add;
 use crate::claim::{Content, reading};
 use crate::fault::ReadFault;
 use crate::order::Above;
-use crate::words::{LineFault, is_number};
+use crate::words::LineFault;
 use crate::{Certificate, Section};
 use domain::versions::Version;
 use std::alloc::Global;
-
-/// A line of a text, without its line end.
-#[derive(Clone, Copy)]
-struct Line<'a> {
-    bytes: &'a [u8],
-    ended: bool,
-}
+use text_lines::lines::{Line, next_line};
+use text_lines::numerals::is_number;
 
 /// Reads a certificate text of any length.
 ///
@@ -151,38 +147,4 @@ fn is_heading(word: &[u8], line: Line<'_>) -> bool
         None => false,
         Some(number) => is_number(number),
     }
-}
-
-/// The first line of a text, and what follows it.
-fn next_line(text: &[u8]) -> Option<(Line<'_>, &[u8])>
-    ensures { MatchOption result (lines text.now ≡ [])
-        (λ r. (lines text.now ≡ record { bytes = r.0.bytes.now; ended = r.0.ended } ∷ lines r.1.now)
-        × (length r.1.now < length text.now)) }
-{
-    if text.is_empty() {
-        return None;
-    }
-    match line_end(text) {
-        None => Some((
-            Line {
-                bytes: text,
-                ended: false,
-            },
-            &text[text.len()..],
-        )),
-        Some(end) => Some((
-            Line {
-                bytes: &text[..end],
-                ended: true,
-            },
-            &text[end + 1..],
-        )),
-    }
-}
-
-/// Where the first line's end stands.
-fn line_end(text: &[u8]) -> Option<usize>
-    ensures { result ≡ position (λ b. b == 10) text.now }
-{
-    text.iter().position(|byte| *byte == b'\n')
 }

@@ -1,9 +1,8 @@
-ghost use Rattle.std.specs.Prelude.{◌≡◌, ◌==◌, IsTrue, position};
-ghost use Rattle.std.specs.Char.{is_ascii_digit};
-ghost use Rattle.std.specs.List.{list_all};
+ghost use Rattle.std.specs.Prelude.{◌≡◌};
 ghost use Rattle.std.specs.Result.{result_map_both};
 ghost use Rattle.certificate.specs.Words as spec;
-ghost use Rattle.certificate.specs.Words.{is_number};
+
+use text_lines::numerals::{is_number, natural};
 
 /// Why a line says nothing.
 #[derive(Clone, Copy)]
@@ -40,17 +39,7 @@ pub(crate) fn both<A: Copy, B: Copy>(
 pub(crate) fn parted(words: &[u8]) -> Result<(&[u8], &[u8]), LineFault>
     ensures { result_map_both (λ parts. (parts.0.now, parts.1.now)) (λ fault. fault) result ≡ spec.parted words.now }
 {
-    match blank(words) {
-        None => Err(LineFault::NotInGrammar),
-        Some(end) => Ok((&words[..end], &words[end + 1..])),
-    }
-}
-
-/// Where the first blank stands.
-pub(crate) fn blank(words: &[u8]) -> Option<usize>
-    ensures { result ≡ position (λ byte. byte == 32) words.now }
-{
-    words.iter().position(|byte| *byte == b' ')
+    text_lines::words::parted(words).ok_or(LineFault::NotInGrammar)
 }
 
 /// A variable: `v` and its root number.
@@ -111,40 +100,19 @@ pub(crate) fn lowered_of(digits: &[u8]) -> Result<i32, LineFault>
 fn at_most(limit: u32, word: &[u8]) -> Result<u32, LineFault>
     ensures { result ≡ spec.at_most limit word.now }
 {
-    if !is_number(word) {
-        return Err(LineFault::NotInGrammar);
-    }
-    value_up_to(limit, word)
-}
-
-/// Whether these are decimal digits without leading zeros.
-pub(crate) fn is_number(word: &[u8]) -> bool
-    ensures { result ≡ is_number word.now }
-{
-    match word {
-        [] => false,
-        [first, more @ ..] if *first == b'0' => more.is_empty(),
-        _ => are_digits(word),
+    match natural(limit, word) {
+        Some(number) => Ok(number),
+        None => Err(number_fault(word)),
     }
 }
 
-fn are_digits(word: &[u8]) -> bool
-    ensures { result ≡ list_all is_ascii_digit word.now }
+/// Why a word isn't a number up to a limit.
+fn number_fault(word: &[u8]) -> LineFault
+    ensures { result ≡ spec.number_fault word.now }
 {
-    word.iter().all(u8::is_ascii_digit)
-}
-
-/// The value of digits, if it is at most the limit.
-fn value_up_to(limit: u32, digits: &[u8]) -> Result<u32, LineFault>
-    requires { IsTrue (is_number digits.now) }
-    ensures { result ≡ spec.value_up_to limit digits.now }
-{
-    let mut value = 0;
-    for digit in digits {
-        value = value * 10 + u64::from(*digit - b'0');
-        if value > u64::from(limit) {
-            return Err(LineFault::OutOfRange);
-        }
+    if is_number(word) {
+        LineFault::OutOfRange
+    } else {
+        LineFault::NotInGrammar
     }
-    Ok(value as u32)
 }

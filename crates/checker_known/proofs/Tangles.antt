@@ -55,7 +55,7 @@ knot-beside held (suc before) one next some inside =
 
 -- ---- what is counted
 
-count-few : (row : ℕ) (found : Option ℕ) → counts row found ≤ 1
+pub count-few : (row : ℕ) (found : Option ℕ) → counts row found ≤ 1
 count-few row None = omega arith
 count-few row (Some one) = few (nat_eq one row)
   where
@@ -111,7 +111,7 @@ raised-length None knots = refl
 raised-length (Some one) knots = length-set knots one (min (get_or knots one 0 + 1) 18446744073709551615)
 
 -- what is counted of a row, where some knots went and some came
-recounted-row : (gone come : Option ℕ × Option ℕ) (knots : List ℕ) (row now then : ℕ) → row < length (recounted gone come knots)
+pub recounted-row : (gone come : Option ℕ × Option ℕ) (knots : List ℕ) (row now then : ℕ) → row < length (recounted gone come knots)
     → now ≤ get_or knots row 0 → counts row gone.0 + counts row gone.1 ≤ now
     → then + (counts row gone.0 + counts row gone.1) ≡ now + (counts row come.0 + counts row come.1) → then ≤ 18446744073709551615
     → then ≤ get_or (recounted gone come knots) row 0
@@ -130,7 +130,7 @@ recounted-row gone come knots row now then inside counted within is few =
     let v4 = counted-more come.1 three row (omega (arith, there, n1, n2, n3)) in
     omega (arith, v1, v2, v3, v4, counted, within, is, few)
 
-recounted-length : (gone come : Option ℕ × Option ℕ) (knots : List ℕ) → length (recounted gone come knots) ≡ length knots
+pub recounted-length : (gone come : Option ℕ × Option ℕ) (knots : List ℕ) → length (recounted gone come knots) ≡ length knots
 recounted-length gone come knots =
     let one = lowered gone.0 knots in
     let two = lowered gone.1 one in

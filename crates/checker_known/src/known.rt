@@ -1,10 +1,11 @@
 ghost use Rattle.std.specs.Prelude.{◌≡◌, OnOk, map, true};
 ghost use Rattle.std.specs.Bool.{OnTrue};
+ghost use Rattle.checker_state.specs.Growths.{row_outside};
 ghost use Rattle.checker_state.specs.View.{said_held};
 ghost use Rattle.checker_known.specs.Knots.{AreCounted};
 ghost use Rattle.checker_known.specs.Order.{disorder_of};
 ghost use Rattle.checker_known.specs.Resting.{AreListed};
-ghost use Rattle.checker_known.specs.View.{growing_in, one_if, said_row};
+ghost use Rattle.checker_known.specs.View.{AreGrowing, depth_of, said_row};
 
 use crate::change::Change;
 use crate::knots::{knot_at, knots_around, recount};
@@ -14,6 +15,10 @@ use checker_state::{Growing, Held, is_same_growth};
 use domain::interval::Interval;
 use domain::versions::Version;
 use std::alloc::{AllocError, AllocFailed};
+
+// The deepest for statement of which it is counted how many variables grow with its turns: those of a deeper one are
+// counted with it.
+pub(crate) const DEEPEST: usize = 128;
 
 /// What is known of a row.
 #[derive(Clone, Copy)]
@@ -44,13 +49,13 @@ impl Row {
             && is_same_growth(self.growth, other.growth)
     }
 
-    // One, if its variable grows.
-    fn grown(&self) -> usize
-        ensures { result ≡ one_if self.now.growth }
+    // How deep the for statement is taken to stand with whose turns its variable grows.
+    fn depth(&self) -> Option<usize>
+        ensures { result ≡ depth_of self.now.growth }
     {
         match self.growth {
-            None => 0,
-            Some(_) => 1,
+            None => None,
+            Some(growing) => Some(growing.depth.min(DEEPEST)),
         }
     }
 }
@@ -60,8 +65,8 @@ impl Row {
 pub struct Known {
     /// What is known of rows, by the number of the row.
     pub rows: Vec<Row>,
-    /// Of how many rows the variable grows.
-    pub growing: usize,
+    /// By how deep a for statement stands, of how many rows at most the variable grows with its turns.
+    pub growing: Vec<usize>,
     /// What is held, in its order, each once, but where bounds are about to take the places of variables.
     pub held: Vec<Held>,
     /// How many of these don't come before the next.
@@ -74,7 +79,7 @@ pub struct Known {
     pub is_dead: bool,
     /// The version of certificates by whose rules it is known.
     pub rules: Version,
-    pub ghost growing_counted: { growing ≡ growing_in (map said_row rows.items) },
+    pub ghost growing_counted: { AreGrowing growing.items (map said_row rows.items) },
     pub ghost counted: { disorder ≡ disorder_of (map said_held held.items) },
     pub ghost knots_counted: { AreCounted knots.items (map said_held held.items) },
     pub ghost all_listed: { resting.is_whole ≡ true → AreListed resting.lists.items (map said_held held.items) },
@@ -94,6 +99,24 @@ impl Known {
             None => Row::NONE,
             Some(known) => *known,
         }
+    }
+
+    /// Whether variables are known to grow, if they do, with the turns of for statements alone that stand round one so
+    /// deep.
+    pub fn grows_outside(&self, depth: usize) -> bool
+        ensures { OnTrue result
+            (map (row_outside depth) (viewed (core self.now)).rows ≡ (viewed (core self.now)).rows) }
+    {
+        let counted = self.growing.len();
+        if counted <= DEEPEST {
+            return false;
+        }
+        for place in depth.min(DEEPEST)..counted {
+            if self.growing[place] > 0 {
+                return false;
+            }
+        }
+        true
     }
 
     /// Makes a change.
@@ -120,9 +143,9 @@ impl Known {
         ensures told { AllGrew self.new → AllGrew self.old }
     {
         if row < self.rows.len() {
-            let was = self.rows[row].grown();
+            let gone = (self.rows[row].depth(), None);
             self.rows[row] = now;
-            self.growing = self.growing - was + now.grown();
+            recount(&mut self.growing, gone, (now.depth(), None));
         }
     }
 

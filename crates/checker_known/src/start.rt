@@ -2,7 +2,7 @@ ghost use Rattle.std.specs.Prelude.{◌≡◌, IfOk, map};
 ghost use Rattle.checker_state.specs.State.{of_types};
 ghost use Rattle.checker_known.specs.View.{said_row, type_rows};
 
-use crate::known::{Known, Row};
+use crate::known::{DEEPEST, Known, Row};
 use crate::resting::Resting;
 use checker_rows::Rows;
 use domain::versions::Version;
@@ -16,11 +16,12 @@ impl Known {
         ensures { IfOk result (λ known. seen_core (core known) ≡ of_types rules (type_rows table.now)) }
     {
         let rows = type_rows(alloc, table)?;
+        let growing = vec![in alloc; 0; DEEPEST + 1]?;
         let knots = vec![in alloc; 0; rows.len()]?;
         let resting = Resting::of(alloc, table.variables())?;
         Ok(Known {
             rows,
-            growing: 0,
+            growing,
             held: Vec::new(alloc),
             disorder: 0,
             knots,

@@ -1,5 +1,5 @@
--- Behind a for statement nothing grows with its turns: row by row, and where no variable grows at all.
-use Rattle.std.proofs.Common.{arith, ◌≡◌, ◌∙◌, sym, ap, ap₂, refl, ℕ, ◌+◌, ◌<◌, ◌≤◌, Bool, false, cond, List, [], ◌∷◌, ◌++◌, append-nil, drop, get_or, length}
+-- Behind a for statement nothing grows with its turns: row by row, and where no variable grows so deep.
+use Rattle.std.proofs.Common.{arith, ◌≡◌, ◌∙◌, sym, ap, ap₂, refl, ℕ, ◌+◌, ◌<◌, ◌≤◌, Bool, cond, List, [], ◌∷◌, ◌++◌, append-nil, drop, get_or, length}
 use Rattle.std.proofs.Common.{map, nat_lt, take, Option, Some, None}
 use Rattle.std.proofs.Math.Seq.{map-set_same}
 use Rattle.std.proofs.lemmas.Bool.{cond_both}
@@ -9,7 +9,7 @@ use Rattle.checker_state.specs.declared.growing.Growing.{Growing}
 use Rattle.checker_state.specs.Growths.{growing_outside, row_outside, without_turns}
 use Rattle.checker_state.specs.State.{Dead, Facts, Live, RowState, State, no_row, row_at}
 use Rattle.checker_known.specs.Known.{core, viewed}
-use Rattle.checker_known.specs.View.{growing_in, said_row}
+use Rattle.checker_known.specs.View.{said_row}
 use Rattle.checker_trail.specs.declared.state.State.{State as Kept}
 use Rattle.checker_trail.specs.Trail.{Moves, all_ungrown, at_outside, over_held, seen, with_growth_at}
 use Rattle.checker_state.specs.declared.bound.Bound.{Bound as KeptBound}
@@ -66,27 +66,16 @@ pub rest-moves : {a b c : Kept} (depth : ℕ) (rows : List ℕ) → Moves (all_o
     → Moves (without_turns depth) a c
 rest-moves {a = a} depth rows first rest = moves-as (without_turns depth) (moves-then first rest) (all-stay depth rows (seen a))
 
--- ---- where no variable grows
+-- ---- where no variable grows so deep
 
-one-none : (depth : ℕ) (growth : Option Growing) (rest : ℕ) → growing_in (record { range = no_row.range; is_defined = false; growth = growth } ∷ []) + rest ≡ 0
-    → growing_outside depth growth ≡ growth
-one-none depth None rest none = refl
-one-none depth (Some growing) rest none = absurd (omega (arith, none))
-
-none-outside : (depth : ℕ) (rows : List RowState) → growing_in rows ≡ 0 → map (row_outside depth) rows ≡ rows
-none-outside depth [] none = refl
-none-outside depth (row ∷ rows) none =
-    ap₂ (λ (growth : Option Growing) (rest : List RowState). let one : RowState = record row { growth = growth } in one ∷ rest)
-    (one-none depth row.growth (growing_in rows) (omega (arith, none))) (none-outside depth rows (omega (arith, none)))
-
-pub none-moves : {a b : Kept} (depth : ℕ) (rows : List ℕ) → growing_in (map said_row b.known.rows.items) ≡ 0 → Moves (all_outside depth rows) a b
-    → Moves (without_turns depth) a b
+pub none-moves : {a b : Kept} (depth : ℕ) (rows : List ℕ) → map (row_outside depth) (viewed (core b.known)).rows ≡ (viewed (core b.known)).rows
+    → Moves (all_outside depth rows) a b → Moves (without_turns depth) a b
 none-moves {b = b} depth rows none moves =
     let facts = viewed (core b.known) in
     rest-moves depth rows moves
     (moves-stay (without_turns depth) b
     (cond_both b.known.is_dead Dead (Live facts) (λ (state : State). state ≡ without_turns depth state) (λ dead. refl)
-    (λ live. ap (λ (rows : List RowState). Live (record facts { rows = rows })) (sym (none-outside depth facts.rows none)))))
+    (λ live. ap (λ (rows : List RowState). Live (record facts { rows = rows })) (sym none))))
 
 -- ---- all rows
 

@@ -99,7 +99,7 @@ impl<'a> State<'a> {
         for root in touched {
             self.end_growth(depth, *root as usize);
         }
-        if self.known.growing > 0 {
+        if !self.known.grows_outside(depth) {
             self.end_growths(depth);
         }
     }

@@ -25,7 +25,7 @@ impl<'a> State<'a> {
                 alloc,
                 known: Known {
                     rows: Vec::new(alloc),
-                    growing: 0,
+                    growing: Vec::new(alloc),
                     held: Vec::new(alloc),
                     disorder: 0,
                     knots: Vec::new(alloc),

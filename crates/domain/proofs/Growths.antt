@@ -7,7 +7,7 @@ use Rattle.std.specs.Int.{int_min, int_max, saturate_signed}
 use Rattle.domain.specs.declared.growth.Growth.{Growth}
 use Rattle.domain.specs.GrowthLaws.{is-le}
 use Rattle.domain.specs.Growths.{behind, stepped, written}
-use Rattle.domain.specs.Interval.{Interval, IsEnd, has_number, nearest_end, limit}
+use Rattle.domain.specs.Interval.{Interval, IsEnd, has_number, nearest_end}
 
 pub same_growth : (first first_step last last_step first' first_step' last' last_step' : ℤ)
     → first ≡ first' → first_step ≡ first_step' → last ≡ last' → last_step ≡ last_step'

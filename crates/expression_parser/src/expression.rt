@@ -22,6 +22,7 @@ use token_cursor::nesting::inside;
 use token_cursor::operator::Level;
 
 /// An expression (6.7.1), below which `levels` levels are left.
+/// `expression = simple-expression [ relational-operator simple-expression ] .`
 #[cycle(expression)]
 #[tactic(auto, unfolding(reading::specs::Expressions::relation_of))]
 pub fn expression<'a>(
@@ -40,6 +41,7 @@ pub fn expression<'a>(
 }
 
 /// A simple expression or a term, by the level of its operators (6.7.1).
+/// `simple-expression, term = first-operand { operator operand } .`
 #[cycle(expression)]
 #[tactic(auto, unfolding(reading::specs::Expressions::chain))]
 fn chain<'a>(
@@ -61,6 +63,7 @@ fn chain<'a>(
 }
 
 /// The first operand of a chain of this level.
+/// `first-operand = signed | factor .`
 #[cycle(expression)]
 fn first_operand<'a>(
     alloc: Global,
@@ -77,6 +80,7 @@ fn first_operand<'a>(
 }
 
 /// The operand behind an operator of this level.
+/// `operand = term | factor .`
 #[cycle(expression)]
 fn operand<'a>(
     alloc: Global,
@@ -93,6 +97,7 @@ fn operand<'a>(
 }
 
 /// The operators of this level that come next, each with the operand behind it.
+/// `links = { operator operand } .`
 #[cycle(expression)]
 fn links<'a>(
     alloc: Global,
@@ -114,6 +119,7 @@ fn links<'a>(
     Ok(links)
 }
 
+/// `signed = [ sign ] term .`
 #[cycle(expression)]
 #[tactic(auto, unfolding(reading::specs::Expressions::signed))]
 fn signed<'a>(alloc: Global, cursor: &mut Cursor<'_, 'a>, levels: u32) -> Result<Expr<'a>, Refusal>
@@ -126,6 +132,7 @@ fn signed<'a>(alloc: Global, cursor: &mut Cursor<'_, 'a>, levels: u32) -> Result
     build::signed(alloc, sign, place, term)
 }
 
+/// `factor = unsigned-integer | character-string | named | "not" negated | "[" set | parenthesized .`
 #[cycle(expression)]
 #[tactic(auto, using(crate::proofs::Built::built_expressions), unfolding(reading::specs::Expressions::any_factor))]
 fn factor<'a>(alloc: Global, cursor: &mut Cursor<'_, 'a>, levels: u32) -> Result<Expr<'a>, Refusal>
@@ -150,6 +157,7 @@ fn factor<'a>(alloc: Global, cursor: &mut Cursor<'_, 'a>, levels: u32) -> Result
 }
 
 /// The operand of a `not` at a place, which is a level of its own.
+/// `negated = factor .`
 #[cycle(expression)]
 #[tactic(auto, unfolding(reading::specs::Expressions::negated))]
 fn negated<'a>(
@@ -167,6 +175,7 @@ fn negated<'a>(
 }
 
 /// A variable, a constant or the call of a function (6.5.1, 6.3, 6.7.3).
+/// `named = identifier ( selectors | actual-parameters ) .`
 #[cycle(expression)]
 #[tactic(auto, using(crate::proofs::Built::built_expressions), unfolding(reading::specs::Expressions::named))]
 fn named<'a>(alloc: Global, cursor: &mut Cursor<'_, 'a>, levels: u32) -> Result<Expr<'a>, Refusal>
@@ -191,6 +200,7 @@ fn named<'a>(alloc: Global, cursor: &mut Cursor<'_, 'a>, levels: u32) -> Result<
 }
 
 /// The selectors of a variable (6.5.3), and the index expressions of those that are an index.
+/// `selectors = { "[" index { "," index } "]" | "." identifier } .`
 #[cycle(expression)]
 pub fn selectors<'a>(
     alloc: Global,
@@ -212,6 +222,7 @@ pub fn selectors<'a>(
 
 /// The selector that comes next, if one does, by whether the brackets of an index are open. Its index expression is put
 /// behind the others.
+/// `selector = "," index | [ "]" ] unjoined .`
 #[cycle(expression)]
 fn selector<'a>(
     alloc: Global,
@@ -234,6 +245,7 @@ fn selector<'a>(
 }
 
 /// The selector that comes next, if one does, where no index goes on in open brackets.
+/// `unjoined = [ "[" index | "." identifier ] .`
 #[cycle(expression)]
 #[tactic(auto, unfolding(reading::specs::Expressions::unjoined))]
 fn unjoined<'a>(
@@ -258,6 +270,7 @@ fn unjoined<'a>(
 
 /// A selector that is an index: where it begins and whether it is joined to the index before it, and its index
 /// expression, which is put behind the others.
+/// `index-selector = index .`
 #[cycle(expression)]
 fn index_selector<'a>(
     alloc: Global,
@@ -275,6 +288,7 @@ fn index_selector<'a>(
 }
 
 /// An index expression, which is a level of its own.
+/// `index = below .`
 #[cycle(expression)]
 #[tactic(auto, unfolding(reading::specs::Expressions::index))]
 fn index<'a>(alloc: Global, cursor: &mut Cursor<'_, 'a>, levels: u32) -> Result<Expr<'a>, Refusal>
@@ -285,6 +299,7 @@ fn index<'a>(alloc: Global, cursor: &mut Cursor<'_, 'a>, levels: u32) -> Result<
 }
 
 /// An expression that is a level of its own, which begins at a place.
+/// `below = expression .`
 #[cycle(expression)]
 fn below<'a>(
     alloc: Global,
@@ -298,6 +313,7 @@ fn below<'a>(
     expression(alloc, cursor, levels)
 }
 
+/// `parenthesized = "(" below ")" .`
 #[cycle(expression)]
 #[tactic(auto, unfolding(reading::specs::Expressions::parenthesized))]
 fn parenthesized<'a>(
@@ -314,6 +330,7 @@ fn parenthesized<'a>(
 }
 
 /// A set constructor (6.7.1) behind its opening bracket.
+/// `set = members .`
 #[cycle(expression)]
 #[tactic(auto, using(crate::proofs::Built::built_set), unfolding(reading::specs::Expressions::set))]
 fn set<'a>(
@@ -333,6 +350,7 @@ fn set<'a>(
 }
 
 /// The designators and the values of a set's members, and its closing bracket.
+/// `members = [ member-list ] "]" .`
 #[cycle(expression)]
 #[tactic(auto, unfolding(reading::specs::Expressions::members))]
 fn members<'a>(
@@ -355,6 +373,7 @@ fn members<'a>(
     }
 }
 
+/// `member-list = member { "," member } .`
 #[cycle(expression)]
 fn member_list<'a>(
     alloc: Global,
@@ -378,6 +397,7 @@ fn member_list<'a>(
 }
 
 /// The designator of a set's member, whose values are put behind the others.
+/// `member = index [ ".." index ] .`
 #[cycle(expression)]
 #[tactic(auto, unfolding(reading::specs::Expressions::member))]
 fn member<'a>(
@@ -398,6 +418,7 @@ fn member<'a>(
 }
 
 /// The actual parameters of a call (6.7.3).
+/// `actual-parameters = [ "(" actual-list ")" ] .`
 #[cycle(expression)]
 #[tactic(auto, unfolding(reading::specs::Expressions::actuals))]
 pub fn actuals<'a>(
@@ -414,6 +435,7 @@ pub fn actuals<'a>(
     cursor.followed_by(actuals, Kind::Symbol(Symbol::CloseParenthesis))
 }
 
+/// `actual-list = actual { "," actual } .`
 #[cycle(expression)]
 fn actual_list<'a>(
     alloc: Global,
@@ -433,6 +455,7 @@ fn actual_list<'a>(
     }
 }
 
+/// `actual = index [ ":" index ] .`
 #[cycle(expression)]
 #[tactic(auto, unfolding(reading::specs::Expressions::actual))]
 fn actual<'a>(

@@ -21,6 +21,7 @@ use token_cursor::kept::put;
 use token_cursor::nesting::inside;
 
 /// A block (6.2.1), below which `levels` levels are left.
+/// `block = constant-part type-part variable-part routines statement-part .`
 #[cycle(block)]
 #[tactic(auto, using(crate::proofs::Blocks::parts_of_blocks), unfolding(reading::specs::Declarations::block_of))]
 pub(crate) fn block<'a>(
@@ -51,6 +52,7 @@ pub(crate) fn block<'a>(
 }
 
 /// The compound statement of a block below which `levels` levels are left: its statements, and its `end`.
+/// `statement-part = compound-statement .`
 #[tactic(auto, using(crate::proofs::Blocks::statement_part_at))]
 fn statement_part<'a>(
     alloc: Global,
@@ -64,6 +66,7 @@ fn statement_part<'a>(
 }
 
 /// The declarations of procedures and functions (6.6), in a block below which `levels` levels are left.
+/// `routines = { routine } .`
 #[cycle(block)]
 fn routines<'a>(
     alloc: Global,
@@ -88,6 +91,7 @@ fn begins_routine(cursor: &Cursor<'_, '_>) -> bool
 }
 
 /// The declaration of a procedure (6.6.1) or function (6.6.2).
+/// `routine = heading body ";" .`
 #[cycle(block)]
 #[tactic(auto, using(crate::proofs::Blocks::built_routine), unfolding(reading::specs::Declarations::routine))]
 fn routine<'a>(
@@ -107,6 +111,7 @@ fn routine<'a>(
 
 /// The block of a procedure or function, or none where `forward` stands in its place, which it may
 /// where `directive` says so.
+/// `body = block | "forward" .`
 #[cycle(block)]
 #[tactic(auto, using(crate::proofs::Blocks::below_at), unfolding(reading::specs::Declarations::body))]
 fn body<'a>(

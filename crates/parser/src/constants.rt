@@ -14,6 +14,7 @@ use syntax_tree::{Constant, ConstantDefinition, ConstantValue, SignAt};
 use token_cursor::cursor::Cursor;
 
 /// The definition of a constant (6.3).
+/// `constant-definition = identifier "=" constant ";" .`
 impl<'a> Item<'a> for ConstantDefinition<'a> {
     ghost look = { definition_outline };
 
@@ -40,6 +41,7 @@ impl<'a> Part<'a> for Constant<'a> {
 }
 
 /// The constants before an arm of a case (6.8.3.5), and their colon.
+/// `case-constants = constant { "," constant } ":" .`
 #[tactic(auto, using(crate::proofs::Parts::constant_leaves), unfolding(reading::specs::Statements::row))]
 pub(crate) fn row<'a>(
     alloc: Global,
@@ -51,6 +53,7 @@ pub(crate) fn row<'a>(
 }
 
 /// A constant (6.3): a string, or a number or a name with a sign or none.
+/// `constant = character-string | [ sign ] unsigned-constant .`
 #[tactic(auto, unfolding(reading::specs::Statements::constant))]
 pub(crate) fn constant<'a>(cursor: &mut Cursor<'_, 'a>) -> Result<Constant<'a>, Refusal>
     ensures { Makes constant_outline (spec.constant cursor.old.rest.now) result cursor.new }
@@ -66,6 +69,7 @@ pub(crate) fn constant<'a>(cursor: &mut Cursor<'_, 'a>) -> Result<Constant<'a>, 
 }
 
 /// The sign that comes next, if one does.
+/// `sign = "+" | "-" .`
 #[tactic(auto, unfolding(reading::specs::Statements::sign))]
 fn sign(cursor: &mut Cursor<'_, '_>) -> Option<SignAt>
     ensures { spec.sign cursor.old.rest.now ≡ Ok (sign_outline result, cursor.new.rest.now) }
@@ -75,6 +79,7 @@ fn sign(cursor: &mut Cursor<'_, '_>) -> Option<SignAt>
 }
 
 /// A number or a name behind this sign.
+/// `unsigned-constant = unsigned-integer | identifier .`
 #[tactic(auto, unfolding(reading::specs::Statements::value))]
 fn signed<'a>(cursor: &mut Cursor<'_, 'a>, sign: Option<SignAt>) -> Result<Constant<'a>, Refusal>
     ensures { Makes constant_outline (signed (sign_outline sign) cursor.old.rest.now) result cursor.new }

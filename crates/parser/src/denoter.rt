@@ -21,6 +21,7 @@ use token_cursor::kept::{boxed, put};
 use token_cursor::nesting::inside;
 
 /// A type denoter (6.4.1) in something below which `levels` levels are left.
+/// `type-denoter = enumerated-type | structured-type | name-or-subrange .`
 #[cycle(denoter)]
 pub(crate) fn denoter<'a>(
     alloc: Global,
@@ -39,6 +40,7 @@ pub(crate) fn denoter<'a>(
 }
 
 /// A structured type (6.4.3.1), below which `levels` levels are left.
+/// `structured-type = [ "packed" ] ( array-type | set-type | record-type ) .`
 #[cycle(denoter)]
 #[tactic(auto, unfolding(reading::specs::Declarations::structured, reading::specs::Declarations::packed))]
 fn structured<'a>(
@@ -57,6 +59,7 @@ fn structured<'a>(
 }
 
 /// An array type behind `packed` (6.4.3.2), below which `levels` levels are left.
+/// `array-type = "array" "[" index-types "]" "of" component-type .`
 #[cycle(denoter)]
 #[tactic(auto, using(crate::proofs::Denoters::built_denoters), unfolding(reading::specs::Declarations::array))]
 fn array<'a>(
@@ -82,6 +85,7 @@ fn array<'a>(
 }
 
 /// The element type of an array, or the base type of a set.
+/// `component-type = type-denoter .`
 #[cycle(denoter)]
 fn part<'a>(
     alloc: Global,
@@ -94,6 +98,7 @@ fn part<'a>(
 }
 
 /// The index types of an array.
+/// `index-types = type-denoter { "," type-denoter } .`
 #[cycle(denoter)]
 fn indexes<'a>(
     alloc: Global,
@@ -114,6 +119,7 @@ fn indexes<'a>(
 }
 
 /// A set type behind `packed` (6.4.3.4), below which `levels` levels are left.
+/// `set-type = "set" "of" component-type .`
 #[cycle(denoter)]
 #[tactic(auto, using(crate::proofs::Denoters::built_denoters), unfolding(reading::specs::Declarations::set_type))]
 fn set<'a>(
@@ -135,6 +141,7 @@ fn set<'a>(
 }
 
 /// A record type behind `packed` (6.4.3.3), below which `levels` levels are left.
+/// `record-type = "record" ( "end" | fields ) .`
 #[cycle(denoter)]
 #[tactic(auto, using(crate::proofs::Denoters::built_denoters), unfolding(reading::specs::Declarations::record_type))]
 fn record<'a>(
@@ -167,6 +174,7 @@ fn record<'a>(
 
 /// The rows of names of a record's fields, the denoter behind each, and whether a semicolon stands
 /// before the `end`.
+/// `fields = names type-denoter { ";" names type-denoter } [ ";" ] "end" .`
 #[cycle(denoter)]
 fn fields<'a>(
     alloc: Global,

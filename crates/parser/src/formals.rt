@@ -13,6 +13,7 @@ use syntax_tree::{FormalGroup, Passing};
 use token_cursor::cursor::Cursor;
 
 /// Formal parameters that are declared together, and the name of their type (6.6.3.1).
+/// `formal-section = [ "var" ] names identifier .`
 impl<'a> Part<'a> for FormalGroup<'a> {
     ghost look = { formal_outline };
 
@@ -35,6 +36,7 @@ impl<'a> Part<'a> for FormalGroup<'a> {
 }
 
 /// The formal parameters of a procedure or function (6.6.3.1), which may be left out.
+/// `formal-parameters = [ "(" formal-section { ";" formal-section } ")" ] .`
 #[tactic(auto, using(crate::proofs::Parts::formal_leaves), unfolding(reading::specs::Declarations::formals))]
 pub(crate) fn formals<'a>(
     alloc: Global,

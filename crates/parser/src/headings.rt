@@ -13,6 +13,7 @@ use syntax_tree::{FormalGroup, Heading, Name};
 use token_cursor::cursor::Cursor;
 
 /// The heading of a procedure (6.6.1) or of a function (6.6.2), with its semicolon.
+/// `heading = procedure-heading | function-heading .`
 #[tactic(auto, unfolding(reading::specs::Declarations::heading))]
 pub(crate) fn heading<'a>(
     alloc: Global,
@@ -26,6 +27,7 @@ pub(crate) fn heading<'a>(
     }
 }
 
+/// `procedure-heading = "procedure" identifier formal-parameters ";" .`
 #[tactic(auto, unfolding(reading::specs::Declarations::procedure))]
 fn procedure<'a>(alloc: Global, cursor: &mut Cursor<'_, 'a>) -> Result<Heading<'a>, Refusal>
     ensures { Makes headed (spec.procedure cursor.old.rest.now) result cursor.new }
@@ -37,6 +39,7 @@ fn procedure<'a>(alloc: Global, cursor: &mut Cursor<'_, 'a>) -> Result<Heading<'
     Ok(Heading::Procedure { name, formals })
 }
 
+/// `function-heading = "function" identifier ( ";" | signature ) .`
 #[tactic(auto, unfolding(reading::specs::Declarations::function))]
 fn function<'a>(alloc: Global, cursor: &mut Cursor<'_, 'a>) -> Result<Heading<'a>, Refusal>
     ensures { Makes headed (spec.function cursor.old.rest.now) result cursor.new }
@@ -55,6 +58,7 @@ fn function<'a>(alloc: Global, cursor: &mut Cursor<'_, 'a>) -> Result<Heading<'a
 }
 
 /// The formal parameters of a function, and the name of its result's type.
+/// `signature = formal-parameters ":" identifier ";" .`
 #[tactic(auto, unfolding(reading::specs::Declarations::signature))]
 fn signature<'a>(
     alloc: Global,

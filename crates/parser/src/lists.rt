@@ -38,6 +38,7 @@ pub(crate) trait Item<'a>: Drop {
 }
 
 /// One part or more, with a symbol between each two.
+/// `separated = part { symbol part } .`
 fn separated<'a, P: Part<'a>>(
     alloc: Global,
     cursor: &mut Cursor<'_, 'a>,
@@ -58,6 +59,7 @@ fn separated<'a, P: Part<'a>>(
 }
 
 /// One part or more, with a symbol between each two, and the symbol that ends them.
+/// `enclosed = separated end .`
 #[tactic(auto, using(token_cursor::proofs::Keeping::followed_makes))]
 pub(crate) fn enclosed<'a, P: Part<'a>>(
     alloc: Global,
@@ -74,6 +76,7 @@ pub(crate) fn enclosed<'a, P: Part<'a>>(
 }
 
 /// Parts in parentheses, with a symbol between each two, or none where no parentheses come.
+/// `in-parentheses = [ "(" separated ")" ] .`
 pub(crate) fn in_parentheses<'a, P: Part<'a>>(
     alloc: Global,
     cursor: &mut Cursor<'_, 'a>,
@@ -91,6 +94,7 @@ pub(crate) fn in_parentheses<'a, P: Part<'a>>(
 
 /// A part of a block (6.2.1), which may be left out: the word symbol that begins it, and one item or more, in a block
 /// below which `levels` levels are left.
+/// `block-part = [ word item { item } ] .`
 pub(crate) fn block_part<'a, I: Item<'a>>(
     alloc: Global,
     cursor: &mut Cursor<'_, 'a>,
@@ -125,6 +129,7 @@ pub(crate) fn is_next(cursor: &Cursor<'_, '_>, kind: Kind) -> bool
 
 /// Behind an arm of a case, or behind fields of a record: whether a semicolon stands before the
 /// `end`, or none where more arms or fields follow.
+/// `behind-arm = ";" [ "end" ] | "end" .`
 #[tactic(auto, unfolding(reading::specs::Statements::behind_arm))]
 pub(crate) fn behind_arm(cursor: &mut Cursor<'_, '_>) -> Result<Option<bool>, Refusal>
     ensures { Makes (λ found. found) (statements.behind_arm cursor.old.rest.now) result cursor.new }

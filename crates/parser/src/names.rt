@@ -24,6 +24,7 @@ impl<'a> Part<'a> for Name<'a> {
 
 /// The names of fields, variables or formal parameters that are declared together (6.4.3.3, 6.5.1, 6.6.3.1), and their
 /// colon.
+/// `names = identifier { "," identifier } ":" .`
 #[tactic(auto, using(crate::proofs::Parts::lists_of_names), unfolding(reading::specs::Declarations::field_names))]
 pub(crate) fn field_names<'a>(
     alloc: Global,

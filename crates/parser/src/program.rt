@@ -47,6 +47,7 @@ pub fn parse<'a>(alloc: Global, tokens: &[Token<'a>]) -> Result<Program<'a>, Par
 }
 
 /// A program and nothing behind it.
+/// `program = "program" identifier parameters ";" block "." .`
 #[tactic(auto, unfolding(reading::specs::Declarations::program))]
 fn program<'a>(alloc: Global, cursor: &mut Cursor<'_, 'a>) -> Result<Program<'a>, Refusal>
     ensures { Makes program_outline (spec.program most cursor.old.rest.now) result cursor.new }
@@ -73,6 +74,7 @@ fn ended<T: Drop>(cursor: &mut Cursor<'_, '_>, found: Result<T, Refusal>) -> Res
     Ok(made)
 }
 
+/// `parameters = [ "(" identifier { "," identifier } ")" ] .`
 #[tactic(auto, using(crate::proofs::Parts::lists_of_names), unfolding(reading::specs::Declarations::parameters))]
 fn parameters<'a>(alloc: Global, cursor: &mut Cursor<'_, 'a>) -> Result<Vec<Name<'a>>, Refusal>
     ensures { Makes (λ found. map name_outline found.items) (spec.parameters cursor.old.rest.now) result cursor.new }

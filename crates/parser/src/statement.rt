@@ -21,6 +21,7 @@ use token_cursor::nesting::inside;
 
 /// The statements of a compound statement (6.8.3.2), and its `end`. Below it `levels` levels are
 /// left.
+/// `compound-statement = "begin" statements "end" .`
 #[cycle(statement)]
 #[tactic(auto, unfolding(reading::specs::Statements::compound))]
 pub(crate) fn compound<'a>(
@@ -36,6 +37,7 @@ pub(crate) fn compound<'a>(
     Ok((statements, end))
 }
 
+/// `statements = statement { ";" statement } .`
 #[cycle(statement)]
 fn statements<'a>(
     alloc: Global,
@@ -55,6 +57,7 @@ fn statements<'a>(
 }
 
 /// A statement in something below which `levels` levels are left (6.8).
+/// `statement = [ simple | compound-statement | if | while | repeat | for | case | with ] .`
 #[cycle(statement)]
 #[tactic(auto, using(crate::proofs::Built::built_statements))]
 fn statement<'a>(
@@ -83,6 +86,7 @@ fn statement<'a>(
 
 /// An assignment (6.8.2.2) or the call of a procedure (6.8.2.3), below which `levels` levels are
 /// left.
+/// `simple = identifier ( selectors ":=" expression | actual-parameters ) .`
 #[tactic(auto, using(crate::proofs::Built::built_statements), unfolding(reading::specs::Statements::simple))]
 fn simple<'a>(alloc: Global, cursor: &mut Cursor<'_, 'a>, levels: u32) -> Result<Stmt<'a>, Refusal>
     ensures { Makes stmt_outline (spec.simple levels cursor.old.rest.now) result cursor.new }
@@ -107,6 +111,7 @@ fn simple<'a>(alloc: Global, cursor: &mut Cursor<'_, 'a>, levels: u32) -> Result
 }
 
 /// An if statement (6.8.3.4), below which `levels` levels are left.
+/// `if = "if" expression "then" body alternative .`
 #[cycle(statement)]
 #[tactic(auto, using(crate::proofs::Built::built_statements), unfolding(reading::specs::Statements::conditional))]
 fn conditional<'a>(
@@ -130,6 +135,7 @@ fn conditional<'a>(
 }
 
 /// The `else` that comes next and its statement: it belongs to the nearest `if`.
+/// `alternative = [ "else" body ] .`
 #[cycle(statement)]
 #[tactic(auto, unfolding(reading::specs::Statements::alternative))]
 fn alternative<'a>(
@@ -147,6 +153,7 @@ fn alternative<'a>(
 }
 
 /// A while statement (6.8.3.8), below which `levels` levels are left.
+/// `while = "while" expression "do" body .`
 #[cycle(statement)]
 #[tactic(auto, using(crate::proofs::Built::built_statements), unfolding(reading::specs::Statements::while_loop))]
 fn while_loop<'a>(
@@ -168,6 +175,7 @@ fn while_loop<'a>(
 }
 
 /// A repeat statement (6.8.3.7), below which `levels` levels are left.
+/// `repeat = "repeat" statements "until" expression .`
 #[cycle(statement)]
 #[tactic(auto, using(crate::proofs::Built::built_statements), unfolding(reading::specs::Statements::repeat_loop))]
 fn repeat_loop<'a>(
@@ -190,6 +198,7 @@ fn repeat_loop<'a>(
 }
 
 /// A for statement (6.8.3.9), below which `levels` levels are left.
+/// `for = control initial expression "do" body .`
 #[cycle(statement)]
 #[tactic(auto, using(crate::proofs::Built::built_statements), unfolding(reading::specs::Statements::for_loop))]
 fn for_loop<'a>(
@@ -214,6 +223,7 @@ fn for_loop<'a>(
 }
 
 /// The place of a for statement, and its control variable.
+/// `control = "for" identifier ":=" .`
 #[tactic(auto, unfolding(reading::specs::Statements::control))]
 fn control<'a>(cursor: &mut Cursor<'_, 'a>) -> Result<(Place, Name<'a>), Refusal>
     ensures { Makes control_lexeme (spec.control cursor.old.rest.now) result cursor.new }
@@ -225,6 +235,7 @@ fn control<'a>(cursor: &mut Cursor<'_, 'a>) -> Result<(Place, Name<'a>), Refusal
 }
 
 /// The first bound of a for statement, and its direction.
+/// `initial = expression ( "to" | "downto" ) .`
 #[tactic(auto, unfolding(reading::specs::Statements::initial))]
 fn initial<'a>(
     alloc: Global,
@@ -238,6 +249,7 @@ fn initial<'a>(
 }
 
 /// A case statement (6.8.3.5), below which `levels` levels are left.
+/// `case = "case" expression "of" arms .`
 #[cycle(statement)]
 #[tactic(auto, using(crate::proofs::Built::built_statements), unfolding(reading::specs::Statements::case_of))]
 fn case_of<'a>(alloc: Global, cursor: &mut Cursor<'_, 'a>, levels: u32) -> Result<Stmt<'a>, Refusal>
@@ -257,6 +269,7 @@ fn case_of<'a>(alloc: Global, cursor: &mut Cursor<'_, 'a>, levels: u32) -> Resul
 
 /// The rows of constants of a case, the arm behind each, and whether a semicolon stands before the
 /// `end`.
+/// `arms = case-constants statement { ";" case-constants statement } [ ";" ] "end" .`
 #[cycle(statement)]
 fn arms<'a>(
     alloc: Global,
@@ -278,6 +291,7 @@ fn arms<'a>(
 }
 
 /// A with statement (6.8.3.10), below which `levels` levels are left.
+/// `with = "with" records "do" body .`
 #[cycle(statement)]
 #[tactic(auto, using(crate::proofs::Built::built_statements), unfolding(reading::specs::Statements::with_fields))]
 fn with_fields<'a>(
@@ -300,6 +314,7 @@ fn with_fields<'a>(
 }
 
 /// The variables of records behind `with`.
+/// `records = record-variable { "," record-variable } .`
 fn records<'a>(
     alloc: Global,
     cursor: &mut Cursor<'_, 'a>,
@@ -319,6 +334,7 @@ fn records<'a>(
 }
 
 /// A variable of a record: a name and its selectors.
+/// `record-variable = identifier selectors .`
 #[tactic(auto, unfolding(reading::specs::Statements::record_variable))]
 fn record_variable<'a>(
     alloc: Global,
@@ -337,6 +353,7 @@ fn record_variable<'a>(
 }
 
 /// A statement that is part of another one, below which `levels` levels are left.
+/// `body = statement .`
 #[cycle(statement)]
 fn body<'a>(
     alloc: Global,
@@ -349,6 +366,7 @@ fn body<'a>(
 }
 
 /// An expression and the word symbol behind it.
+/// `guard = expression word .`
 #[tactic(auto, unfolding(reading::specs::Statements::guard))]
 fn guard<'a>(
     alloc: Global,

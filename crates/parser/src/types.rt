@@ -10,6 +10,7 @@ use syntax_tree::TypeDefinition;
 use token_cursor::cursor::Cursor;
 
 /// The definition of a type (6.4.1).
+/// `type-definition = identifier "=" type-denoter ";" .`
 impl<'a> Item<'a> for TypeDefinition<'a> {
     ghost look = { type_outline };
 

@@ -14,6 +14,7 @@ use syntax_tree::{Constant, ConstantValue, Name, TypeDenoter};
 use token_cursor::cursor::Cursor;
 
 /// An enumerated type (6.4.2.3).
+/// `enumerated-type = "(" identifier { "," identifier } ")" .`
 #[tactic(auto, using(crate::proofs::Denoters::enumerations), unfolding(reading::specs::Declarations::enumerated))]
 pub(crate) fn enumerated<'a>(
     alloc: Global,
@@ -27,6 +28,7 @@ pub(crate) fn enumerated<'a>(
 }
 
 /// A name, or a subrange type (6.4.2.4): a name is one alone, another constant only before `..`.
+/// `name-or-subrange = identifier | constant ".." constant .`
 #[tactic(auto, using(crate::proofs::Denoters::subranges), unfolding(reading::specs::Declarations::name_or_subrange))]
 pub(crate) fn name_or_subrange<'a>(cursor: &mut Cursor<'_, 'a>) -> Result<TypeDenoter<'a>, Refusal>
     ensures { Makes denoter_outline (name_or_subrange cursor.old.rest.now) result cursor.new }

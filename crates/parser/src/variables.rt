@@ -11,6 +11,7 @@ use syntax_tree::VariableGroup;
 use token_cursor::cursor::Cursor;
 
 /// Variables that are declared together (6.5.1).
+/// `variable-declaration = names type-denoter ";" .`
 impl<'a> Item<'a> for VariableGroup<'a> {
     ghost look = { group_outline };
 

@@ -1,15 +1,15 @@
 -- The lines of a text above its last.
-use Rattle.std.proofs.Common.{◌≡◌, ℕ, ◌<◌, Bool, true, false, nat_lt, ◌==◌, ◌&&◌, List, [], ◌∷◌, ◌++◌, map, length, refl, sym, ap, ◌∙◌, arith}
+use Rattle.std.proofs.Common.{◌≡◌, ℕ, ◌<◌, Bool, true, false, ◌==◌, ◌&&◌, List, [], ◌∷◌, ◌++◌, map, length, refl, sym, ap, ◌∙◌, arith}
 use Rattle.std.proofs.Common.{append_assoc, codes}
 use Rattle.std.specs.Bool.{if◌then◌else◌}
 use Rattle.std.specs.List.{flat_map, list_all}
 use Rattle.std.specs.Str.{bytes_eq}
 use Rattle.std.proofs.lemmas.Bool.{and_parts}
-use Rattle.std.proofs.lemmas.Bool.Decides.{nat_tests}
 use Rattle.std.proofs.lemmas.Slice.Eq.{bytes_eq-Decides}
-use Rattle.pcode_assembler.specs.Contents.{ended}
-use Rattle.pcode_assembler.specs.Text.{Line, above_last, body, ends, has_end, is_end, lines, with_front}
-use Rattle.pcode_assembler.proofs.TextLines.{unlines, unlines-lines}
+use Rattle.text_lines.specs.Lines.{Line, ended, lines, with_front}
+use Rattle.text_lines.proofs.Bytes.{are_above}
+use Rattle.text_lines.proofs.TextLines.{lines_at, unlines, unlines-lines, whole}
+use Rattle.pcode_assembler.specs.Text.{above_last, body, ends, has_end, is_end}
 
 front_line : (byte : ℕ) (ls : List Line) → (first : Line) × (more : List Line) × (with_front byte ls ≡ first ∷ more)
 front_line byte [] = (record { bytes = byte ∷ []; ended = false }, [], refl)
@@ -79,20 +79,6 @@ pub body_text : (text : List ℕ) → has_end text ≡ true → text ≡ flat_ma
 body_text text at_end = sym (unlines-lines text) ∙ unlines_body (lines text) (all_ended text) at_end
 
 -- ---- the lines of a text of lines
-
--- no byte of a line ends a line
-abbrev pub are_above : ℕ → List ℕ → Bool
-are_above limit text = list_all (nat_lt limit) text
-
-abbrev whole : List ℕ → Line
-whole line = record { bytes = line; ended = true }
-
-lines_at : (line rest : List ℕ) → are_above 10 line ≡ true → lines (line ++ 10 ∷ rest) ≡ whole line ∷ lines rest
-lines_at [] rest above = refl
-lines_at (byte ∷ line) rest above =
-    let parts = and_parts (nat_lt 10 byte) _ above in
-    let other : byte == 10 ≡ false = grind (arith, nat_tests) in
-    rw (other, lines_at line rest parts.1) refl
 
 lines_again : (ls : List (List ℕ)) → list_all (are_above 10) ls ≡ true
     → lines (flat_map ended ls ++ ended (codes "end")) ≡ map whole ls ++ whole (codes "end") ∷ []

@@ -6,6 +6,10 @@ use Rattle.std.specs.List.{list_all}
 use Rattle.std.specs.Fmt.{signed_decimal}
 use Rattle.std.specs.Option.{option_map}
 use Rattle.std.proofs.lemmas.Bool.{and_from, and_parts}
+use Rattle.text_lines.specs.Numerals.{natural}
+use Rattle.text_lines.specs.Words.{parted}
+use Rattle.text_lines.proofs.Bytes.{are_above}
+use Rattle.text_lines.proofs.Parting.{parted-again, some_is}
 use Rattle.pcode_assembler.specs.declared.content.Content.{Content}
 use Rattle.pcode_assembler.specs.declared.content.Content.TheVariants as content
 use Rattle.pcode_assembler.specs.declared.content.LineWord.TheVariants as word
@@ -15,10 +19,9 @@ use Rattle.pcode_assembler.specs.Bounds.{in_bounds, is_count, is_level, is_offse
 use Rattle.pcode_assembler.specs.Lines.{alone, before_blank, content_at, content_of, has_ids, has_numbers, is_id, is_number_of_32_bits}
 use Rattle.pcode_assembler.specs.Lines.{is_spellable, known_word, line_of, line_word, without_operands, words_behind}
 use Rattle.pcode_assembler.specs.Table.{operand_words, shape_of, with_words, word_of}
-use Rattle.pcode_assembler.specs.Words.{both, members, natural, number, parted, set_digits}
-use Rattle.pcode_assembler.proofs.Bodies.{are_above}
-use Rattle.pcode_assembler.proofs.Numerals.{mapped, number-again, number-spelled, number_above, some_is}
-use Rattle.pcode_assembler.proofs.Parting.{both-again, both-spelled, nat_above, nat_again, nat_spelled, parted-again}
+use Rattle.pcode_assembler.specs.Words.{both, members, number, set_digits}
+use Rattle.pcode_assembler.proofs.Numerals.{mapped, number-again, number-spelled, number_above}
+use Rattle.pcode_assembler.proofs.Parting.{both-again, both-spelled, nat_above, nat_again, nat_spelled}
 use Rattle.pcode_assembler.proofs.Sets.{members-again, members-spelled, set_above}
 
 pub spellable_parts : (i : Instr) → is_spellable i ≡ true → (in_bounds i ≡ true) × (has_ids i ≡ true) × (has_numbers i ≡ true)

@@ -5,14 +5,15 @@ use Rattle.std.specs.Str.{bytes_eq}
 use Rattle.std.proofs.lemmas.Bool.{and_from, and_parts, eqb-true, eqb-false}
 use Rattle.std.proofs.lemmas.Bool.Decides.{nat_tests}
 use Rattle.std.proofs.lemmas.Slice.Eq.{bytes_eq-Decides}
+use Rattle.text_lines.specs.Words.{behind}
+use Rattle.text_lines.proofs.Digits.{natural-again, natural-spelled}
+use Rattle.text_lines.proofs.Parting.{behind_some, some_is}
 use Rattle.pcode_assembler.specs.Lines.{is_id, is_instruction, label_line, label_of, number_behind}
-use Rattle.pcode_assembler.specs.Words.{behind}
 use Rattle.pcode_assembler.specs.Reading.{Notes, NotesLabel, is_this, or_label, seen_by}
 use Rattle.pcode_assembler.specs.declared.labels.Labels.{Labels}
 use Rattle.std.specs.HashMap.{get}
 use Rattle.pcode_assembler.specs.Text.{first_label, is_label, weight}
 use Rattle.pcode_assembler.specs.declared.labels.Label.{Label}
-use Rattle.pcode_assembler.proofs.Numerals.{behind_some, natural-again, natural-spelled, some_is}
 
 pub id_is : (n : ℕ) → is_id n ≡ true → n ≤ 999999
 id_is n is = grind (arith, nat_tests)

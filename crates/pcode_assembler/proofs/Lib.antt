@@ -10,6 +10,5 @@ pub mod SaidAgain
 pub mod Sets
 pub mod Spelling
 pub mod Steps
-pub mod TextLines
 pub mod Whole
 pub mod Written

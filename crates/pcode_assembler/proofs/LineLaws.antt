@@ -1,8 +1,13 @@
 -- The lines of a text between its first and its last: each is read as it is spelled.
-use Rattle.std.proofs.Common.{◌≡◌, ℕ, ◌^◌, ◌<◌, ◌≤◌, Bool, true, false, cond, ◌&&◌, nat_le, nat_lt, List, [], ◌∷◌, ◌++◌, Option, Some, None}
+use Rattle.std.proofs.Common.{◌≡◌, ℕ, ◌^◌, ◌<◌, ◌≤◌, Bool, true, false, cond, ◌&&◌, nat_le, List, [], ◌∷◌, ◌++◌, Option, Some, None}
 use Rattle.std.proofs.Common.{refl, sym, ap, subst, ◌∙◌, arith, decimal, codes}
 use Rattle.std.specs.Bool.{if◌then◌else◌}
 use Rattle.std.specs.List.{find, list_all}
+use Rattle.text_lines.specs.Numerals.{natural}
+use Rattle.text_lines.specs.Words.{parted}
+use Rattle.text_lines.proofs.Bytes.{above_append, are_above}
+use Rattle.text_lines.proofs.Digits.{decimal_above}
+use Rattle.text_lines.proofs.Parting.{parted-again, parted-spelled, some_is}
 use Rattle.pcode_assembler.specs.declared.table.TheConstants.{TEMPLATES}
 use Rattle.std.specs.Option.{option_map}
 use Rattle.std.specs.Str.{bytes_eq}
@@ -19,12 +24,11 @@ use Rattle.pcode_assembler.specs.Lines.{alone, before_blank, column_and_kind, co
 use Rattle.pcode_assembler.specs.Lines.{kind_of, known_word, line_of, line_word, part_of, part_of_word, place, site, with_words, words_behind}
 use Rattle.pcode_assembler.specs.Table.{operand_words, template, word_of}
 use Rattle.pcode_assembler.specs.Table.{with_words as instruction_with}
-use Rattle.pcode_assembler.specs.Words.{both, natural, parted, positive}
+use Rattle.pcode_assembler.specs.Words.{both, positive}
 use Rattle.pcode_assembler.specs.Writable.{is_kind}
-use Rattle.pcode_assembler.proofs.Bodies.{are_above}
 use Rattle.pcode_assembler.proofs.Instructions.{alone_written, instruction_again, operands_above, word_above, written}
-use Rattle.pcode_assembler.proofs.Numerals.{decimal_above, mapped, positive-again, positive-spelled, some_is}
-use Rattle.pcode_assembler.proofs.Parting.{both-again, both-spelled, le_true, nat_above, nat_again, nat_spelled, parted-again, parted-spelled}
+use Rattle.pcode_assembler.proofs.Numerals.{mapped, positive-again, positive-spelled}
+use Rattle.pcode_assembler.proofs.Parting.{both-again, both-spelled, le_true, nat_above, nat_again, nat_spelled}
 
 between : (n limit : ℕ) → (nat_le 1 n && nat_le n limit) ≡ true → (1 ≤ n) × (n ≤ limit)
 between n limit is =
@@ -102,11 +106,6 @@ line_again (content.Instruction i) fit =
     }
 
 -- ---- the bytes of a line
-
-above_append : (floor : ℕ) (front back : List ℕ) → are_above floor front ≡ true → are_above floor back ≡ true → are_above floor (front ++ back) ≡ true
-above_append floor [] back f b = b
-above_append floor (byte ∷ front) back f b =
-    let parts = and_parts (nat_lt floor byte) _ f in and_from _ _ parts.0 (above_append floor front back parts.1 b)
 
 words_above : (words : List (List ℕ)) → list_all (are_above 10) words ≡ true → are_above 10 (words_behind words) ≡ true
 words_above [] all = refl

@@ -1,34 +1,11 @@
--- Numbers as the words of a line.
-use Rattle.std.proofs.Common.{◌≡◌, ℕ, suc, zero, ◌+◌, ◌*◌, ◌-◌, ◌^◌, ◌<◌, ◌≤◌, true, nat_lt, List, [], ◌∷◌, take, fold}
-use Rattle.std.proofs.Common.{None, refl, ap, subst, arith, get_or, length}
+-- Hexadecimal digits and their values.
+use Rattle.std.proofs.Common.{◌≡◌, ℕ, suc, zero, ◌+◌, ◌*◌, ◌-◌, ◌^◌, ◌<◌, ◌≤◌, true, List, [], ◌∷◌}
+use Rattle.std.proofs.Common.{ap, subst, arith, get_or, length}
 use Rattle.std.proofs.Math.Nat.{pow-suc}
 use Rattle.std.specs.List.{list_all}
 use Rattle.std.proofs.lemmas.Bool.{and_parts}
 use Rattle.std.proofs.lemmas.Bool.Decides.{nat_tests}
-use Rattle.pcode_assembler.specs.Words.{is_hexadecimal, nibble_of, value_of, value_up_to}
-
-grows : (xs : List ℕ) (v : ℕ) → v ≤ fold (λ value digit. value * 10 + (digit - 48)) v xs
-grows [] v = omega arith
-grows (x ∷ xs) v = let h = grows xs (v * 10 + (x - 48)) in omega arith
-
-front_from : (xs : List ℕ) (n v : ℕ)
-    → fold (λ value digit. value * 10 + (digit - 48)) v (take n xs) ≤ fold (λ value digit. value * 10 + (digit - 48)) v xs
-front_from [] zero v = grows [] v
-front_from [] (suc n) v = grows [] v
-front_from (x ∷ xs) zero v = grows (x ∷ xs) v
-front_from (x ∷ xs) (suc n) v = front_from xs n (v * 10 + (x - 48))
-
--- the value of some of the digits is at most that of all
-pub value_of_front : (xs : List ℕ) (n : ℕ) → value_of (take n xs) ≤ value_of xs
-value_of_front xs n = front_from xs n 0
-
-lt_true : (m n : ℕ) → m < n → nat_lt m n ≡ true
-lt_true m n h = grind (arith, nat_tests)
-
-pub value_above : (limit : ℕ) (digits : List ℕ) → limit < value_of digits → None ≡ value_up_to limit digits
-value_above limit digits h = rw (lt_true limit (value_of digits) h) refl
-
--- ---- hexadecimal digits
+use Rattle.pcode_assembler.specs.Words.{is_hexadecimal, nibble_of}
 
 pub nibble_small : (digit : ℕ) → is_hexadecimal digit ≡ true → nibble_of digit < 16
 nibble_small digit is = grind (arith, nat_tests)

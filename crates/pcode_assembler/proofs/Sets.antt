@@ -7,10 +7,10 @@ use Rattle.std.specs.List.{list_all}
 use Rattle.std.proofs.lemmas.Bool.{and_from, and_parts, eqb-true, lt-ltb}
 use Rattle.std.proofs.lemmas.Bool.Decides.{nat_tests}
 use Rattle.std.proofs.Math.Nat.{pow-suc}
+use Rattle.text_lines.proofs.Bytes.{are_above}
+use Rattle.text_lines.proofs.Parting.{some_is}
 use Rattle.pcode_assembler.specs.Words.{hexadecimal_digit, hexadecimal_digits, hexadecimal_value, is_hexadecimal, members, nibble_of, set_digits}
-use Rattle.pcode_assembler.proofs.Bodies.{are_above}
 use Rattle.pcode_assembler.proofs.Numbers.{nibble_small}
-use Rattle.pcode_assembler.proofs.Numerals.{some_is}
 
 -- ---- one digit
 

@@ -7,6 +7,7 @@ use Rattle.std.specs.Option.{option_map_or}
 use Rattle.std.proofs.lemmas.Bool.{and_from, and_parts, eq-eqb, lt-ltb}
 use Rattle.std.proofs.lemmas.Bool.Decides.{nat_tests}
 use Rattle.std.proofs.lemmas.List.{append-nil}
+use Rattle.text_lines.proofs.Parting.{some_is}
 use Rattle.pcode_assembler.specs.declared.above.Above.{Above}
 use Rattle.pcode_assembler.specs.declared.code.Point.{Point}
 use Rattle.pcode_assembler.specs.declared.code.Site.{Site}
@@ -25,7 +26,6 @@ use Rattle.pcode_assembler.specs.Writable.{check_site, is_below, is_kind, jump_t
 use Rattle.pcode_assembler.specs.Writing.{have_numbers}
 use Rattle.pcode_assembler.proofs.LabelLines.{id_from}
 use Rattle.pcode_assembler.proofs.Labelled.{body_past, code_count, is_other, label_here}
-use Rattle.pcode_assembler.proofs.Numerals.{some_is}
 use Rattle.pcode_assembler.proofs.Parting.{le_true}
 use Rattle.pcode_assembler.proofs.Steps.{after}
 

@@ -8,6 +8,9 @@ use Rattle.std.specs.Option.{is_none}
 use Rattle.std.specs.Result.{IsErrAnd}
 use Rattle.std.proofs.lemmas.Bool.{and_from, and_parts}
 use Rattle.memory.specs.Refused.{the_refusal}
+use Rattle.text_lines.specs.Lines.{ended, lines}
+use Rattle.text_lines.proofs.Bytes.{are_above}
+use Rattle.text_lines.proofs.Parting.{some_is}
 use Rattle.pcode_assembler.specs.declared.above.Above.{Above}
 use Rattle.pcode_assembler.specs.declared.code.Code.{Code}
 use Rattle.pcode_assembler.specs.declared.content.Content.{Content}
@@ -15,15 +18,14 @@ use Rattle.pcode_assembler.specs.declared.fault.AsmFault.{AsmFault}
 use Rattle.pcode_assembler.specs.declared.fault.AsmFault.TheVariants as fault
 use Rattle.pcode_assembler.specs.declared.fault.AsmRule.{AsmRule}
 use Rattle.pcode_assembler.specs.declared.fault.AsmRule.TheVariants as rule
-use Rattle.pcode_assembler.specs.Contents.{IsReadAs, IsSameCode, Says, are_right, ended, going_to, instruction_rows, is_right, lines_of, named, point_rows}
+use Rattle.pcode_assembler.specs.Contents.{IsReadAs, IsSameCode, Says, are_right, going_to, instruction_rows, is_right, lines_of, named, point_rows}
 use Rattle.pcode_assembler.specs.Contents.{rows, site_rows}
 use Rattle.pcode_assembler.specs.Lines.{content_of, fits, line_of, line_word, part_of, part_of_word}
 use Rattle.pcode_assembler.specs.Reading.{AreRead}
-use Rattle.pcode_assembler.specs.Text.{Seen, below, below_line, body, body_fault, end_fault, fault_at, fault_from, has_end, heading, lines, of_word, or_else}
+use Rattle.pcode_assembler.specs.Text.{Seen, below, below_line, body, body_fault, end_fault, fault_at, fault_from, has_end, heading, of_word, or_else}
 use Rattle.pcode_assembler.specs.Text.{frame_fault, heading_fault, reading, rule_at, said_or_rule, seen_in, start, unless}
-use Rattle.pcode_assembler.proofs.Bodies.{are_above, body_again, body_text, end_again}
+use Rattle.pcode_assembler.proofs.Bodies.{body_again, body_text, end_again}
 use Rattle.pcode_assembler.proofs.LineLaws.{line_above, line_again}
-use Rattle.pcode_assembler.proofs.Numerals.{some_is}
 
 -- ---- a code that is read
 

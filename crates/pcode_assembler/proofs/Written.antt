@@ -6,11 +6,12 @@ use Rattle.std.proofs.Math.Seq.{take-suc}
 use Rattle.std.proofs.lemmas.Bool.{and_from, and_parts}
 use Rattle.std.proofs.lemmas.Grind.{common_steps, flat_map-append}
 use Rattle.std.proofs.lemmas.List.{append-nil}
+use Rattle.text_lines.specs.Lines.{ended}
 use Rattle.pcode_assembler.specs.declared.content.Content.{Content}
 use Rattle.pcode_assembler.specs.declared.content.Content.TheVariants as content
 use Rattle.pcode_assembler.specs.declared.instr.Instr.{Instr}
 use Rattle.pcode_assembler.specs.declared.instr.Instr.TheVariants as instr
-use Rattle.pcode_assembler.specs.Contents.{body_lines, ended, label_rows, text_of}
+use Rattle.pcode_assembler.specs.Contents.{body_lines, label_rows, text_of}
 use Rattle.pcode_assembler.specs.Lines.{has_numbers, line_of}
 use Rattle.pcode_assembler.specs.Text.{heading}
 use Rattle.pcode_assembler.specs.Writing.{Marks, have_numbers, instruction_line, label_if, lines_text}

@@ -4,6 +4,7 @@ use Rattle.std.specs.Prelude.{◌∷◌, ◌++◌, length, map, Option, Some, No
 use Rattle.std.specs.List.{flat_map, list_all, list_any}
 use Rattle.std.specs.Option.{is_none, option_map_or}
 use Rattle.memory.specs.Refused.{the_refusal}
+use Rattle.text_lines.specs.Lines.{ended}
 use Rattle.pcode_assembler.specs.declared.code.Code.{Code}
 use Rattle.pcode_assembler.specs.declared.code.Site.{Site}
 use Rattle.pcode_assembler.specs.declared.code.Point.{Point}
@@ -67,10 +68,6 @@ going_to to (instr.CallProcedure length target) = instr.CallProcedure length (to
 going_to to i = i
 
 -- ---- texts
-
--- a line with its end
-abbrev pub ended : List ℕ → List ℕ
-ended line = line ++ 10 ∷ []
 
 -- the lines of a text above its last
 abbrev pub lines_of : List Content → List (List ℕ)

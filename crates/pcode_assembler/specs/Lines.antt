@@ -5,6 +5,8 @@ use Rattle.std.specs.Prelude.{List, [], ◌∷◌, ◌++◌, Option, Some}
 use Rattle.std.specs.Prelude.{None, codes, decimal}
 use Rattle.std.specs.Str.{bytes_eq}
 use Rattle.std.specs.Option.{option_map}
+use Rattle.text_lines.specs.Numerals.{natural}
+use Rattle.text_lines.specs.Words.{behind, parted}
 use Rattle.pcode_assembler.specs.declared.instr.Instr.{Instr}
 use Rattle.pcode_assembler.specs.declared.instr.Instr.TheVariants as instr
 use Rattle.pcode_assembler.specs.declared.table.Shape.{Shape}
@@ -16,7 +18,7 @@ use Rattle.pcode_assembler.specs.declared.content.LineWord.TheVariants as word
 use Rattle.pcode_assembler.specs.Bounds.{in_bounds}
 use Rattle.pcode_assembler.specs.Table.{operand_words, shape_of, template, word_of}
 use Rattle.pcode_assembler.specs.Table.{with_words as instruction_with}
-use Rattle.pcode_assembler.specs.Words.{behind, both, natural, parted, positive}
+use Rattle.pcode_assembler.specs.Words.{both, positive}
 use Rattle.pcode_assembler.specs.Writable.{check_site, is_kind, jump_target, read_point}
 
 -- ---- how a line is spelled

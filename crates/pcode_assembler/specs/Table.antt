@@ -4,12 +4,13 @@ use Rattle.std.specs.Prelude.{ℕ, ℤ, List, [], ◌∷◌, Option, Some, None,
 use Rattle.std.specs.Fmt.{signed_decimal}
 use Rattle.std.specs.Str.{bytes_eq}
 use Rattle.std.specs.Option.{option_map, option_or}
+use Rattle.text_lines.specs.Numerals.{natural}
 use Rattle.pcode_assembler.specs.declared.table.TheConstants.{TEMPLATES}
 use Rattle.pcode_assembler.specs.declared.instr.Instr.{Instr}
 use Rattle.pcode_assembler.specs.declared.instr.Instr.TheVariants as instr
 use Rattle.pcode_assembler.specs.declared.table.Shape.{Shape}
 use Rattle.pcode_assembler.specs.declared.table.Shape.TheVariants as shape
-use Rattle.pcode_assembler.specs.Words.{both, members, natural, number, set_digits}
+use Rattle.pcode_assembler.specs.Words.{both, members, number, set_digits}
 
 -- ---- words
 

@@ -2,6 +2,7 @@
 use Rattle.std.specs.Prelude.{ℕ, ◌+◌, max, Bool, true, false, ◌&&◌, if◌then◌else◌, nat_le, nat_lt, ◌==◌, List, [], ◌∷◌}
 use Rattle.std.specs.Prelude.{length, Option, Some, None, Result, Ok, Err, codes}
 use Rattle.std.specs.Str.{bytes_eq}
+use Rattle.text_lines.specs.Lines.{Line, lines}
 use Rattle.pcode_assembler.specs.declared.instr.Instr.{Instr}
 use Rattle.pcode_assembler.specs.declared.content.Content.{Content}
 use Rattle.pcode_assembler.specs.declared.content.Content.TheVariants as content
@@ -17,22 +18,6 @@ use Rattle.pcode_assembler.specs.Lines.{content_of}
 use Rattle.pcode_assembler.specs.Writable.{check_site, is_below, jump_target, read_point}
 
 -- ---- lines
-
--- a line of a text: its bytes, and whether byte 10 ends it
-pub record Line : Type 0 where
-  pub bytes : List ℕ
-  pub ended : Bool
-
--- a line with one more byte at its front, the first of the given lines if there is one
-abbrev pub with_front : ℕ → List Line → List Line
-with_front byte [] = record { bytes = byte ∷ []; ended = false } ∷ []
-with_front byte (line ∷ more) = record { bytes = byte ∷ line.bytes; ended = line.ended } ∷ more
-
--- the lines of a text: byte 10 ends a line, and what stands behind the last one is a line if it has a byte
-abbrev pub lines : List ℕ → List Line
-lines [] = []
-lines (byte ∷ more) =
-    if byte == 10 then record { bytes = []; ended = true } ∷ lines more else with_front byte (lines more)
 
 -- the bytes of all lines but the last
 abbrev pub above_last : List Line → List (List ℕ)

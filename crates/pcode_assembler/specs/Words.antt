@@ -1,31 +1,14 @@
 -- The operands of a code's text: how numbers and sets are spelled, and which a word spells. It does not say which
 -- operands an instruction has.
-use Rattle.std.specs.Prelude.{ℕ, zero, suc, ◌+◌, ◌*◌, ◌-◌, ◌/◌, ◌%◌, ℤ, pos, negsuc, Bool, false, nat_eq, nat_lt}
-use Rattle.std.specs.Prelude.{nat_le, ◌==◌, ◌&&◌, ◌||◌, if◌then◌else◌, List, [], ◌∷◌, ◌++◌, length, take, drop}
-use Rattle.std.specs.Prelude.{fold, position, Option, Some, None, codes}
-use Rattle.std.specs.Cmp.Lexicographic.{pointwise}
-use Rattle.std.specs.Char.{is_ascii_digit}
+use Rattle.std.specs.Prelude.{ℕ, zero, suc, ◌+◌, ◌*◌, ◌-◌, ◌/◌, ◌%◌, ℤ, pos, negsuc, Bool, nat_eq, nat_lt}
+use Rattle.std.specs.Prelude.{nat_le, ◌&&◌, ◌||◌, if◌then◌else◌, List, [], ◌∷◌, ◌++◌, length}
+use Rattle.std.specs.Prelude.{fold, Option, Some, None, codes}
 use Rattle.std.specs.List.{list_all}
 use Rattle.std.specs.Option.{option_and_then, option_map, option_zip}
+use Rattle.text_lines.specs.Numerals.{natural}
+use Rattle.text_lines.specs.Words.{behind, parted}
 
 -- ---- numbers
-
--- decimal digits without a leading zero
-abbrev pub is_number : List ℕ → Bool
-is_number [] = false
-is_number (first ∷ more) = if first == 48 then nat_eq (length more) 0 else list_all is_ascii_digit (first ∷ more)
-
--- the value of digits
-abbrev pub value_of : List ℕ → ℕ
-value_of digits = fold (λ value digit. value * 10 + (digit - 48)) 0 digits
-
--- the value of digits, if it is at most a limit
-abbrev pub value_up_to : ℕ → List ℕ → Option ℕ
-value_up_to limit digits = if nat_lt limit (value_of digits) then None else Some (value_of digits)
-
--- the number that a word spells, if it is at most a limit
-abbrev pub natural : ℕ → List ℕ → Option ℕ
-natural limit word = if is_number word then value_up_to limit word else None
 
 -- a number that is at least 1
 abbrev pub from_one : Option ℕ → Option ℕ
@@ -48,10 +31,6 @@ magnitude digits = option_map pos (natural 2147483647 digits)
 
 abbrev pub negated : List ℕ → Option ℤ
 negated digits = negative_of (natural 2147483648 digits)
-
--- what stands behind a beginning of a text
-abbrev pub behind : List ℕ → List ℕ → Option (List ℕ)
-behind word text = if pointwise nat_eq (take (length word) text) word then Some (drop (length word) text) else None
 
 abbrev pub signed : Option (List ℕ) → List ℕ → Option ℤ
 signed None word = magnitude word
@@ -90,16 +69,7 @@ hexadecimal_value digits = fold (λ value digit. value * 16 + nibble_of digit) 0
 abbrev pub members : List ℕ → Option ℕ
 members word = if nat_eq (length word) 32 && list_all is_hexadecimal word then Some (hexadecimal_value word) else None
 
--- ---- the words of a line
-
--- a text at a place, without the byte there
-abbrev pub parted_at : List ℕ → Option ℕ → Option (List ℕ × List ℕ)
-parted_at words None = None
-parted_at words (Some end) = Some (take end words, drop (suc end) words)
-
--- what stands before the first blank, and what stands behind it
-abbrev pub parted : List ℕ → Option (List ℕ × List ℕ)
-parted words = parted_at words (position (λ byte. byte == 32) words)
+-- ---- two operands
 
 -- two operands, parted by a blank
 abbrev pub both : {A B : Type 0} → (List ℕ → Option A) → (List ℕ → Option B) → List ℕ → Option (A × B)

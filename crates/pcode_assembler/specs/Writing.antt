@@ -1,23 +1,20 @@
 -- How a writer of code comes from line to line: words of private functions alone. It does not say how a code is
 -- spelled.
-use Rattle.std.specs.Prelude.{◌≡◌, ℕ, ◌<◌, Bool, true, false, None, ◌==◌, if◌then◌else◌, List, [], ◌∷◌, ◌++◌}
+use Rattle.std.specs.Prelude.{◌≡◌, ℕ, ◌<◌, Bool, true, false, ◌==◌, if◌then◌else◌, List, [], ◌∷◌}
 use Rattle.std.specs.Prelude.{length, decimal}
 use Rattle.std.specs.Prelude.{slice_index_or}
 use Rattle.std.specs.List.{flat_map, list_all, list_any}
+use Rattle.text_lines.specs.declared.writer.Writer.{Writer}
+use Rattle.text_lines.specs.Lines.{ended}
+use Rattle.text_lines.specs.Writing.{Appends}
 use Rattle.pcode_assembler.specs.declared.content.Content.{Content}
 use Rattle.pcode_assembler.specs.declared.content.Content.TheVariants as content
 use Rattle.pcode_assembler.specs.declared.instr.Instr.{Instr}
 use Rattle.pcode_assembler.specs.declared.instr.Instr.TheVariants as instr
-use Rattle.pcode_assembler.specs.declared.writer.Writer.{Writer}
-use Rattle.pcode_assembler.specs.Contents.{ended, goes_to}
+use Rattle.pcode_assembler.specs.Contents.{goes_to}
 use Rattle.pcode_assembler.specs.Lines.{has_numbers, line_of, words_behind}
 
--- bytes are appended to a text, unless memory ran out
-abbrev pub Appends : List ℕ → (old new : Writer) → Type 0
-Appends bytes old new =
-    new.refused ≡ None → (old.refused ≡ None) × (new.text.items ≡ old.text.items ++ bytes)
-
--- lines with their ends are
+-- the text of lines, each with its end
 abbrev pub lines_text : List Content → List ℕ
 lines_text lines = flat_map (λ said. ended (line_of said)) lines
 

@@ -38,7 +38,7 @@ pub fn assemble(alloc: Global, text: &[u8]) -> Result<Code, AsmFault>
     let below = below_heading(text)?;
     let labels = Labels::of(alloc, text)?;
     let mut code = lines_below(alloc, &labels, below)?;
-    code.instructions = labels.resolved(alloc, &code.instructions)?;
+    labels.resolve_all(code.instructions.as_mut_slice());
     Ok(code)
 }
 

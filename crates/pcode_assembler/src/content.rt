@@ -3,7 +3,9 @@ ghost use Rattle.pcode_assembler.specs.Lines as spec;
 
 use crate::instr::Instr;
 use crate::table::{ID_LIMIT, Shape, template};
-use crate::words::{natural, parted, positive};
+use crate::words::positive;
+use text_lines::numerals::natural;
+use text_lines::words::parted;
 
 /// What a line between the first and the last says.
 #[derive(Clone, Copy)]

@@ -133,20 +133,13 @@ impl Labels {
         }
     }
 
-    /// The instructions with their jumps to labels turned into jumps to instructions.
-    pub(crate) fn resolved(
-        &self,
-        alloc: Global,
-        instructions: &[Instr],
-    ) -> Result<Vec<Instr>, AllocError>
-        ensures { IfOk result (λ resolved. resolved.items
-            ≡ map (going_to (named (seen_by self.now))) instructions.now) }
+    /// Turns the jumps to labels into jumps to instructions.
+    pub(crate) fn resolve_all(&self, instructions: &mut [Instr])
+        ensures { instructions.new ≡ map (going_to (named (seen_by self.now))) instructions.old }
     {
-        let mut resolved = Vec::with_capacity(alloc, instructions.len())?;
-        for instr in instructions {
-            resolved.push(self.resolve(*instr))?;
+        for instr in instructions.iter_mut() {
+            *instr = self.resolve(*instr);
         }
-        Ok(resolved)
     }
 
     fn resolve(&self, instr: Instr) -> Instr

@@ -1,15 +1,9 @@
-ghost use Rattle.std.specs.Prelude.{◌≡◌, ◌==◌, [], ◌∷◌, ◌<◌, MatchOption, length, position};
+ghost use Rattle.std.specs.Prelude.{◌≡◌, [], ◌∷◌, ◌<◌, MatchOption, length};
 ghost use Rattle.std.specs.Result.{result_err};
-ghost use Rattle.pcode_assembler.specs.Text.{body, end_fault, lines};
+ghost use Rattle.pcode_assembler.specs.Text.{body, end_fault};
 
 use crate::fault::{AsmFault, AsmRule};
-
-/// A line of a text, without its line end.
-#[derive(Clone, Copy)]
-pub(crate) struct Line<'a> {
-    pub(crate) bytes: &'a [u8],
-    pub(crate) ended: bool,
-}
+use text_lines::lines::next_line;
 
 /// Refuses a text whose last line isn't `end` with its line end.
 pub(crate) fn check_end(text: &[u8]) -> Result<(), AsmFault>
@@ -42,38 +36,4 @@ pub(crate) fn next_above_last(text: &[u8]) -> Option<(&[u8], &[u8])>
         return None;
     }
     Some((line.bytes, more))
-}
-
-/// The first line of a text, and what follows it.
-fn next_line(text: &[u8]) -> Option<(Line<'_>, &[u8])>
-    ensures { MatchOption result (lines text.now ≡ [])
-        (λ r. (lines text.now ≡ record { bytes = r.0.bytes.now; ended = r.0.ended } ∷ lines r.1.now)
-        × (length r.1.now < length text.now)) }
-{
-    if text.is_empty() {
-        return None;
-    }
-    match line_end(text) {
-        None => Some((
-            Line {
-                bytes: text,
-                ended: false,
-            },
-            &text[text.len()..],
-        )),
-        Some(end) => Some((
-            Line {
-                bytes: &text[..end],
-                ended: true,
-            },
-            &text[end + 1..],
-        )),
-    }
-}
-
-/// Where the first line's end stands.
-fn line_end(text: &[u8]) -> Option<usize>
-    ensures { result ≡ position (λ b. b == 10) text.now }
-{
-    text.iter().position(|byte| *byte == b'\n')
 }

@@ -7,7 +7,9 @@ use crate::instr::Instr;
 use crate::table::{
     FRAME_LIMIT, ID_LIMIT, LENGTH_LIMIT, LEVEL_LIMIT, OFFSET_LIMIT, RESULT_LIMIT, Shape,
 };
-use crate::words::{members, natural, number, parted, small};
+use crate::words::{members, number, small};
+use text_lines::numerals::natural;
+use text_lines::words::parted;
 
 impl Instr {
     /// The form of its operands.

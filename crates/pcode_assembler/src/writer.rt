@@ -3,18 +3,19 @@ ghost use Rattle.std.specs.Prelude.{◌≡◌, ◌∷◌, ◌++◌, ◌<◌, ℕ
 ghost use Rattle.std.specs.Prelude.{false};
 ghost use Rattle.std.specs.Fmt.{signed_decimal};
 ghost use Rattle.std.specs.List.{list_any};
+ghost use Rattle.text_lines.specs.Lines.{ended};
+ghost use Rattle.text_lines.specs.Writing.{Appends};
 ghost use Rattle.pcode_assembler.specs.Contents.{HasText, Says, body_lines, goes_to, point_line, site_line, spelling};
 ghost use Rattle.pcode_assembler.specs.Lines.{has_numbers, label_line, words_behind};
 ghost use Rattle.pcode_assembler.specs.Table.{operand_words};
 ghost use Rattle.pcode_assembler.specs.Words.{hexadecimal_digit, hexadecimal_digits, set_digits};
-ghost use Rattle.pcode_assembler.specs.Writing.{Appends, AppendsLines, Marks, have_numbers, instruction_line, label_if};
+ghost use Rattle.pcode_assembler.specs.Writing.{AppendsLines, Marks, have_numbers, instruction_line, label_if};
 ghost use Rattle.pcode_assembler.specs.Writing.{natural_words, placed, single_words};
-ghost use Rattle.pcode_assembler.specs.Contents.{ended};
 
 use crate::code::{Code, Point, Site};
 use crate::instr::Instr;
-use itoa::Buffer;
 use std::alloc::{AllocError, Global};
+use text_lines::writer::Writer;
 
 impl Code {
     /// Writes the text that `assemble` reads as this code, if it has one: `HasText` says which codes have. There is a
@@ -27,19 +28,13 @@ impl Code {
         ensures reads { HasText self.now → IfOk result (λ text. Says text.items self.now) }
     {
         let targets = targets(alloc, &self.instructions)?;
-        let mut writer = Writer {
-            text: Vec::new(alloc),
-            refused: None,
-        };
+        let mut writer = Writer::new(alloc);
         writer.append(b"pcode 1\n");
-        writer.sites(&self.sites);
-        writer.points(&self.points);
-        writer.instructions(&targets, &self.instructions);
+        put_sites(&mut writer, &self.sites);
+        put_points(&mut writer, &self.points);
+        put_instructions(&mut writer, &targets, &self.instructions);
         writer.append(b"end\n");
-        match writer.refused {
-            Some(error) => Err(error),
-            None => Ok(writer.text),
-        }
+        writer.finish()
     }
 }
 
@@ -66,208 +61,185 @@ fn mark(places: &mut [bool], place: usize)
     }
 }
 
-/// A text that grows. Where memory ran out it is short from then on, and nothing is known of it.
-#[derive(Drop)]
-struct Writer {
-    text: Vec<u8>,
-    refused: Option<AllocError>,
+fn put_sites(writer: &mut Writer, sites: &[Site])
+    ensures { AppendsLines (map site_line sites.now) writer.old writer.new }
+{
+    for site in sites {
+        writer.append(b"site");
+        put_natural(writer, site.line);
+        put_natural(writer, site.column);
+        put_natural(writer, u32::from(site.kind));
+        writer.append(b"\n");
+    }
 }
 
-impl Writer {
-    fn append(&mut self, bytes: &[u8])
-        ensures { Appends bytes.now self.old self.new }
-    {
-        if let Err(error) = self.text.extend_from_slice(bytes) {
-            self.refused = Some(error);
+fn put_points(writer: &mut Writer, points: &[Point])
+    ensures { AppendsLines (map point_line points.now) writer.old writer.new }
+{
+    for point in points {
+        writer.append(b"point");
+        put_natural(writer, point.line);
+        put_natural(writer, point.column);
+        writer.append(b"\n");
+    }
+}
+
+/// The instructions of a code, with a label before each that a jump goes to.
+fn put_instructions(writer: &mut Writer, targets: &[bool], code: &[Instr])
+    requires { Marks code.now code.now targets.now }
+    ensures lines { AppendsLines (body_lines code.now 0 code.now) writer.old writer.new }
+    ensures numbers { have_numbers code.now ≡ true }
+{
+    for (place, instr) in code.iter().enumerate() {
+        put_label(writer, targets[place], place);
+        put_instruction(writer, instr);
+    }
+}
+
+/// A place's label, if it is the target of a jump.
+fn put_label(writer: &mut Writer, is_target: bool, place: usize)
+    ensures { AppendsLines (label_if is_target place) writer.old writer.new }
+{
+    if is_target {
+        writer.natural(b"label ", place as u64);
+        writer.append(b"\n");
+    }
+}
+
+fn put_instruction(writer: &mut Writer, instr: &Instr)
+    ensures line { Appends (ended (instruction_line instr.now)) writer.old writer.new }
+    ensures numbers { has_numbers instr.now ≡ true }
+{
+    writer.append(instr.word().as_slice());
+    put_operands(writer, instr);
+    writer.append(b"\n");
+}
+
+fn put_operands(writer: &mut Writer, instr: &Instr)
+    ensures words { Appends (words_behind (operand_words instr.now)) writer.old writer.new }
+    ensures numbers { has_numbers instr.now ≡ true }
+{
+    match instr {
+        Instr::LoadConstant { value } => put_number(writer, *value),
+        Instr::LoadSet { members } => put_members(writer, *members),
+        Instr::IndexAddress { low, size } => {
+            put_number(writer, *low);
+            put_natural(writer, *size);
         }
-    }
-
-    fn sites(&mut self, sites: &[Site])
-        ensures { AppendsLines (map site_line sites.now) self.old self.new }
-    {
-        for site in sites {
-            self.append(b"site");
-            self.natural(site.line);
-            self.natural(site.column);
-            self.natural(u32::from(site.kind));
-            self.append(b"\n");
+        Instr::CheckInput {
+            point: id,
+            low,
+            high,
         }
-    }
-
-    fn points(&mut self, points: &[Point])
-        ensures { AppendsLines (map point_line points.now) self.old self.new }
-    {
-        for point in points {
-            self.append(b"point");
-            self.natural(point.line);
-            self.natural(point.column);
-            self.append(b"\n");
+        | Instr::CheckRange {
+            site: id,
+            low,
+            high,
         }
+        | Instr::CheckSet {
+            site: id,
+            low,
+            high,
+        } => put_range(writer, *id, *low, *high),
+        _ => put_naturals(writer, instr),
     }
+}
 
-    /// The instructions of a code, with a label before each that a jump goes to.
-    fn instructions(&mut self, targets: &[bool], code: &[Instr])
-        requires { Marks code.now code.now targets.now }
-        ensures lines { AppendsLines (body_lines code.now 0 code.now) self.old self.new }
-        ensures numbers { have_numbers code.now ≡ true }
-    {
-        for (place, instr) in code.iter().enumerate() {
-            self.label(targets[place], place);
-            self.instruction(instr);
+/// The operands of an instruction that has natural numbers alone.
+fn put_naturals(writer: &mut Writer, instr: &Instr)
+    ensures { Appends (natural_words instr.now) writer.old writer.new }
+{
+    match instr {
+        Instr::LoadAddress { level, offset }
+        | Instr::Load { level, offset }
+        | Instr::Store { level, offset } => {
+            put_natural(writer, u32::from(*level));
+            put_natural(writer, *offset);
         }
-    }
-
-    /// A place's label, if it is the target of a jump.
-    fn label(&mut self, is_target: bool, place: usize)
-        ensures { AppendsLines (label_if is_target place) self.old self.new }
-    {
-        if is_target {
-            let mut buffer = Buffer::new();
-            self.append(b"label ");
-            self.append(buffer.format(place).as_bytes());
-            self.append(b"\n");
+        Instr::MarkStack { level: n } | Instr::Return { results: n } => {
+            put_natural(writer, u32::from(*n));
         }
-    }
-
-    fn instruction(&mut self, instr: &Instr)
-        ensures line { Appends (ended (instruction_line instr.now)) self.old self.new }
-        ensures numbers { has_numbers instr.now ≡ true }
-    {
-        self.append(instr.word().as_slice());
-        self.operands(instr);
-        self.append(b"\n");
-    }
-
-    fn operands(&mut self, instr: &Instr)
-        ensures words { Appends (words_behind (operand_words instr.now)) self.old self.new }
-        ensures numbers { has_numbers instr.now ≡ true }
-    {
-        match instr {
-            Instr::LoadConstant { value } => self.number(*value),
-            Instr::LoadSet { members } => self.members(*members),
-            Instr::IndexAddress { low, size } => {
-                self.number(*low);
-                self.natural(*size);
-            }
-            Instr::CheckInput {
-                point: id,
-                low,
-                high,
-            }
-            | Instr::CheckRange {
-                site: id,
-                low,
-                high,
-            }
-            | Instr::CheckSet {
-                site: id,
-                low,
-                high,
-            } => self.range(*id, *low, *high),
-            _ => self.naturals(instr),
+        Instr::CallProcedure {
+            length: a,
+            target: b,
         }
-    }
-
-    /// The operands of an instruction that has natural numbers alone.
-    fn naturals(&mut self, instr: &Instr)
-        ensures { Appends (natural_words instr.now) self.old self.new }
-    {
-        match instr {
-            Instr::LoadAddress { level, offset }
-            | Instr::Load { level, offset }
-            | Instr::Store { level, offset } => {
-                self.natural(u32::from(*level));
-                self.natural(*offset);
-            }
-            Instr::MarkStack { level: n } | Instr::Return { results: n } => {
-                self.natural(u32::from(*n));
-            }
-            Instr::CallProcedure {
-                length: a,
-                target: b,
-            }
-            | Instr::Enter {
-                variables: a,
-                evaluation: b,
-            }
-            | Instr::CheckDefined { site: a, length: b } => {
-                self.natural(*a);
-                self.natural(*b);
-            }
-            _ => self.single(instr),
+        | Instr::Enter {
+            variables: a,
+            evaluation: b,
         }
-    }
-
-    /// The operand of an instruction that has one natural number, if it has any.
-    fn single(&mut self, instr: &Instr)
-        ensures { Appends (single_words instr.now) self.old self.new }
-    {
-        match instr {
-            Instr::LoadIndirect { offset: n }
-            | Instr::Increase { offset: n }
-            | Instr::LoadMany { length: n }
-            | Instr::StoreMany { length: n }
-            | Instr::Compare { length: n }
-            | Instr::WriteString { length: n }
-            | Instr::Jump { target: n }
-            | Instr::JumpIfFalse { target: n }
-            | Instr::ReadInteger { point: n }
-            | Instr::ReadChar { point: n }
-            | Instr::ReadLine { point: n }
-            | Instr::EndOfLine { point: n }
-            | Instr::CheckZero { site: n }
-            | Instr::CheckSum { site: n }
-            | Instr::CheckDifference { site: n }
-            | Instr::CheckProduct { site: n }
-            | Instr::CheckSquare { site: n }
-            | Instr::CheckMembers { site: n }
-            | Instr::Fail { site: n } => self.natural(*n),
-            _ => {}
+        | Instr::CheckDefined { site: a, length: b } => {
+            put_natural(writer, *a);
+            put_natural(writer, *b);
         }
+        _ => put_single(writer, instr),
     }
+}
 
-    // The methods from here on write operands, each behind a blank.
-
-    fn range(&mut self, id: u32, low: i32, high: i32)
-        ensures { Appends (words_behind (decimal id ∷ signed_decimal low ∷ signed_decimal high ∷ []))
-            self.old self.new }
-    {
-        self.natural(id);
-        self.number(low);
-        self.number(high);
+/// The operand of an instruction that has one natural number, if it has any.
+fn put_single(writer: &mut Writer, instr: &Instr)
+    ensures { Appends (single_words instr.now) writer.old writer.new }
+{
+    match instr {
+        Instr::LoadIndirect { offset: n }
+        | Instr::Increase { offset: n }
+        | Instr::LoadMany { length: n }
+        | Instr::StoreMany { length: n }
+        | Instr::Compare { length: n }
+        | Instr::WriteString { length: n }
+        | Instr::Jump { target: n }
+        | Instr::JumpIfFalse { target: n }
+        | Instr::ReadInteger { point: n }
+        | Instr::ReadChar { point: n }
+        | Instr::ReadLine { point: n }
+        | Instr::EndOfLine { point: n }
+        | Instr::CheckZero { site: n }
+        | Instr::CheckSum { site: n }
+        | Instr::CheckDifference { site: n }
+        | Instr::CheckProduct { site: n }
+        | Instr::CheckSquare { site: n }
+        | Instr::CheckMembers { site: n }
+        | Instr::Fail { site: n } => put_natural(writer, *n),
+        _ => {}
     }
+}
 
-    fn natural(&mut self, n: u32)
-        ensures { Appends (32 ∷ decimal n) self.old self.new }
-    {
-        let mut buffer = Buffer::new();
-        self.append(b" ");
-        self.append(buffer.format(n).as_bytes());
-    }
+// The functions from here on write operands, each behind a blank.
 
-    fn number(&mut self, n: i32)
-        ensures { Appends (32 ∷ signed_decimal n) self.old self.new }
-    {
-        let mut buffer = Buffer::new();
-        self.append(b" ");
-        self.append(buffer.format(n).as_bytes());
-    }
+fn put_range(writer: &mut Writer, id: u32, low: i32, high: i32)
+    ensures { Appends (words_behind (decimal id ∷ signed_decimal low ∷ signed_decimal high ∷ []))
+        writer.old writer.new }
+{
+    put_natural(writer, id);
+    put_number(writer, low);
+    put_number(writer, high);
+}
 
-    fn members(&mut self, members: u128)
-        ensures { Appends (32 ∷ set_digits members) self.old self.new }
-    {
-        self.append(b" ");
-        self.hexadecimal(32, members);
-    }
+fn put_natural(writer: &mut Writer, n: u32)
+    ensures { Appends (32 ∷ decimal n) writer.old writer.new }
+{
+    writer.natural(b" ", u64::from(n));
+}
 
-    /// So many digits of a number, the least ones.
-    fn hexadecimal(&mut self, count: u8, number: u128)
-        ensures { Appends (hexadecimal_digits count number) self.old self.new }
-    {
-        if count > 0 {
-            self.hexadecimal(count - 1, number / 16);
-            self.append(&[hexadecimal_digit((number % 16) as u8)]);
-        }
+fn put_number(writer: &mut Writer, n: i32)
+    ensures { Appends (32 ∷ signed_decimal n) writer.old writer.new }
+{
+    writer.number(b" ", i64::from(n));
+}
+
+fn put_members(writer: &mut Writer, members: u128)
+    ensures { Appends (32 ∷ set_digits members) writer.old writer.new }
+{
+    writer.append(b" ");
+    put_hexadecimal(writer, 32, members);
+}
+
+/// So many digits of a number, the least ones.
+fn put_hexadecimal(writer: &mut Writer, count: u8, number: u128)
+    ensures { Appends (hexadecimal_digits count number) writer.old writer.new }
+{
+    if count > 0 {
+        put_hexadecimal(writer, count - 1, number / 16);
+        writer.append(&[hexadecimal_digit((number % 16) as u8)]);
     }
 }
 

@@ -1,6 +1,6 @@
 -- Which operands are ordinals and which are sets (ISO 7185:1990, 6.7.1, 6.7.2): what the value of each expression is,
 -- and whether each form has operands as it takes them. It says nothing of types.
-use Rattle.std.specs.Prelude.{ℕ, ◌&&◌, Bool, true, false, List, [], ◌∷◌, Option, Some, None, if◌then◌else◌, map}
+use Rattle.std.specs.Prelude.{◌&&◌, Bool, true, false, List, [], ◌∷◌, Option, Some, None, if◌then◌else◌, map}
 use Rattle.std.specs.List.{list_all}
 use Rattle.std.specs.declared.alloc.Global.{Global}
 use Rattle.std.specs.declared.boxed.Box.{Box}

@@ -2,7 +2,7 @@
 -- order of entry, the variable, the operation, its sites and places. What encloses others tells where it ends, so two
 -- trees that look alike are alike. It says nothing of which tree a program has.
 use Rattle.std.specs.Prelude.{ℕ, ℤ, ◌++◌, ◌&&◌, Bool, true, false, List, []}
-use Rattle.std.specs.Prelude.{◌∷◌, Option, Some, None, Vec, flat_map, map, nat_lt, nat_eq, length}
+use Rattle.std.specs.Prelude.{◌∷◌, Option, Some, None, Vec, flat_map, map, nat_lt, length}
 use Rattle.std.specs.List.{list_all}
 use Rattle.std.specs.declared.alloc.Global.{Global}
 use Rattle.std.specs.declared.boxed.Box.{Box}

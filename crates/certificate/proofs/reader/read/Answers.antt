@@ -1,6 +1,6 @@
 use Rattle.std.proofs.Common.{sym, map}
+use Rattle.text_lines.specs.Lines.{lines}
 use Rattle.certificate.specs.Contents.{section_of}
-use Rattle.certificate.specs.Text.{lines}
 use Rattle.certificate.proofs.Whole.{error_only, fault_below, fault_of_heading, read_exactly, read_only, refused_for_memory}
 use Rattle.certificate.proofs.reader.read.Goals as goal
 

@@ -1,7 +1,7 @@
 use Rattle.std.proofs.Common.{◌+◌, sym, subst, arith, map}
+use Rattle.text_lines.specs.Lines.{lines}
 use Rattle.certificate.specs.Building.{said_above, said_content}
 use Rattle.certificate.specs.Contents.{section_of}
-use Rattle.certificate.specs.Text.{lines}
 use Rattle.certificate.proofs.Reading.{SoFar, so_far-next}
 use Rattle.certificate.proofs.reader.sections.Goals as goal
 

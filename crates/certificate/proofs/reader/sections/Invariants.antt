@@ -1,7 +1,7 @@
 use Rattle.std.proofs.Common.{◌+◌, ◌≤◌, length, map}
+use Rattle.text_lines.specs.Lines.{lines}
 use Rattle.certificate.specs.Building.{said_above}
 use Rattle.certificate.specs.Contents.{section_of}
-use Rattle.certificate.specs.Text.{lines}
 use Rattle.certificate.proofs.Reading.{SoFar}
 use Rattle.certificate.proofs.reader.sections.Given as goal
 

@@ -1,5 +1,4 @@
-use Rattle.std.proofs.Common.{◌≡◌, ◌+ℤ◌, ◌*ℤ◌, SFits, w32, w64, to_z, of_z, rules, ap, ◌∙◌}
-use Rattle.std.proofs.lemmas.Int.{to_z-of_z}
+use Rattle.std.proofs.Common.{◌≡◌, ◌+ℤ◌, ◌*ℤ◌, w64, to_z, of_z, rules, ◌∙◌}
 use Rattle.std.specs.Int.{saturate_signed}
 use Rattle.domain.specs.Interval.{nearest_end}
 use Rattle.domain.proofs.Growths.{nearest-saturated}

@@ -1,4 +1,5 @@
-use Rattle.std.proofs.Common.{refl, rules, sym, ap, ◌∙◌, map}
+use Rattle.std.proofs.Common.{◌≡◌, refl, rules, sym, ap, arith, ◌∙◌, length, map}
+use Rattle.std.proofs.lemmas.List.{with_items_is}
 use Rattle.pcode_assembler.specs.Contents.{going_to, named}
 use Rattle.pcode_assembler.specs.Reading.{seen_by}
 use Rattle.pcode_assembler.specs.Text.{body, body_fault, end_fault, fault_from, start}
@@ -37,7 +38,10 @@ returns-clause-exact c =
     let text = c.args.text.now in
     let seen = seen_by c.in_ok-labels.labels in
     let below = body c.in_ok-below.below.now in
-    let resolved = c.in_ok-code-2.ensures ∙ ap (map (going_to (named seen))) c.deref.ensures.value in
+    let old = c.in_ok-code.code.instructions in
+    let kept : length c.resolve_all.new.instructions ≡ old.len = omega arith in
+    let resolved = with_items_is old c.resolve_all.new.instructions kept ∙ c.resolve_all.ensures ∙ ap (map (going_to (named seen))) c.as_mut_slice.ensures.value
+    in
     exactly text below seen c.in_ok-code.code _ (end_from text (sym c.in_ok-check_end.ensures)) c.in_ok-below.ensures
     c.in_ok-labels.ensures c.in_ok-code.ensures.0 refl refl resolved
 

@@ -1,5 +1,6 @@
 use Rattle.std.proofs.Common.{◌≡◌, ◌+◌, ◌≤◌, false, length}
-use Rattle.pcode_assembler.specs.Text.{ends, lines}
+use Rattle.text_lines.specs.Lines.{lines}
+use Rattle.pcode_assembler.specs.Text.{ends}
 use Rattle.pcode_assembler.proofs.lines.check_end.Given as goal
 
 abbrev pub invariant-loop-line : goal.invariant-loop-line

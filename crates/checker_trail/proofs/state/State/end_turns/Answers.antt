@@ -1,4 +1,4 @@
-use Rattle.std.proofs.Common.{arith, get_or, take}
+use Rattle.std.proofs.Common.{get_or, take}
 use Rattle.std.proofs.lemmas.List.{get_or_default}
 use Rattle.checker_trail.specs.Trail.{at_outside}
 use Rattle.checker_trail.proofs.Outside.{all_outside, none-moves, outside-append, rest-moves}
@@ -14,11 +14,10 @@ loop-root-preserved c =
     moves-more (all_outside depth) (at_outside depth root) roots i root c.loop-root-test.true (get_or_default roots i 0 root c.loop-root-test.true)
     c.loop-root.invariant c.end_growth.ensures (outside-append depth (take i roots) root)
 
-pub returns-then-self-gt0 : goal.returns-then-self-gt0
-returns-then-self-gt0 c =
+pub returns-then-not-grows_outside : goal.returns-then-not-grows_outside
+returns-then-not-grows_outside c =
     rest-moves c.args.depth (take c.loop-root.root-index c.args.touched.now) c.loop-root.invariant c.end_growths.ensures
 
-pub returns-else-self-gt0 : goal.returns-else-self-gt0
-returns-else-self-gt0 c =
-    none-moves c.args.depth (take c.loop-root.root-index c.args.touched.now)
-    (omega (arith, c.if-self-gt0.false, c.loop-root.self.known.growing_counted)) c.loop-root.invariant
+pub returns-else-not-grows_outside : goal.returns-else-not-grows_outside
+returns-else-not-grows_outside c =
+    none-moves c.args.depth (take c.loop-root.root-index c.args.touched.now) c.if-not-grows_outside.ensures c.loop-root.invariant

@@ -1,6 +1,5 @@
-use Rattle.std.proofs.Common.{◌≡◌, SFits, w32, w64, to_z, of_z, rules, ap, subst, sym, ◌∙◌}
+use Rattle.std.proofs.Common.{◌≡◌, SFits, w32, w64, to_z, of_z, rules, subst, sym, ◌∙◌}
 use Rattle.std.proofs.lemmas.Int.{to_z-of_z}
-use Rattle.std.specs.Int.{int_min, int_max}
 use Rattle.domain.specs.Growths.{behind}
 use Rattle.domain.specs.GrowthLaws.{reach-has}
 use Rattle.domain.proofs.Growths.{end-small, nearest-greatest, nearest-least, same_behind}

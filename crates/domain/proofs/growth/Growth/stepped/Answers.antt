@@ -1,4 +1,4 @@
-use Rattle.std.proofs.Common.{◌≡◌, ◌+ℤ◌, ℤ, true, SFits, w32, w64, to_z, of_z, rules, ap, subst, sym, ◌∙◌}
+use Rattle.std.proofs.Common.{◌≡◌, ◌+ℤ◌, true, SFits, w32, w64, to_z, of_z, rules, ap, subst, sym, ◌∙◌}
 use Rattle.std.proofs.lemmas.Int.{to_z-of_z}
 use Rattle.domain.specs.Interval.{IsEnd, has_number}
 use Rattle.domain.specs.Growths.{written}

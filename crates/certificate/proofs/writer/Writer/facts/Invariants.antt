@@ -1,8 +1,0 @@
-use Rattle.std.proofs.Common.{map, take}
-use Rattle.std.specs.List.{flat_map}
-use Rattle.certificate.specs.Contents.{said_fact}
-use Rattle.certificate.specs.Writing.{Appends, fact_line}
-use Rattle.certificate.proofs.writer.Writer.facts.Given as goal
-
-abbrev pub invariant-loop-fact : goal.invariant-loop-fact
-invariant-loop-fact l = Appends (flat_map (fact_line l.word) (map said_fact (take l.fact-index l.facts))) l.initial.self l.self

@@ -1,8 +1,0 @@
-use Rattle.std.proofs.Common.{map, take}
-use Rattle.std.specs.List.{flat_map}
-use Rattle.certificate.specs.Contents.{loop_of}
-use Rattle.certificate.specs.Writing.{Appends, loop_text}
-use Rattle.certificate.proofs.writer.Writer.loops.Given as goal
-
-abbrev pub invariant-loop-claims : goal.invariant-loop-claims
-invariant-loop-claims l = Appends (flat_map loop_text (map loop_of (take l.claims-index l.loops))) l.initial.self l.self

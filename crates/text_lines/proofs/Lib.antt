@@ -1,0 +1,5 @@
+pub mod Bytes
+pub mod Digits
+pub mod Finished
+pub mod Parting
+pub mod TextLines
