@@ -10,6 +10,7 @@ pub mod instr;
 mod labels;
 mod lines;
 mod operands;
+pub mod set_members;
 mod table;
 mod words;
 pub mod writer;
