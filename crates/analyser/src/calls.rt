@@ -106,7 +106,7 @@ impl<'a> Analysis<'a> {
         let state = mem::replace(&mut flow.state, spare);
         let block = mem::replace(&mut flow.grounds.block, number);
         let mark = flow.state.mark();
-        begin(flow, number, self.declared);
+        begin(flow, number, &self.course.declared);
         Caller { state, block, mark }
     }
 

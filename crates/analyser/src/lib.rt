@@ -18,10 +18,10 @@ mod tally;
 mod ways;
 
 use crate::accepting::accepted;
-use crate::analysis::Analysis;
+use crate::analysis::{Analysis, Course, Proposed};
 use crate::outcome::filled;
 use crate::tally::Tally;
-use analyser_plan::{Course, Plan, Proposed};
+use analyser_plan::Plan;
 use cert_checker::program::grounds;
 use cert_checker::walk::Walk;
 use certificate::Certificate;
@@ -67,9 +67,29 @@ pub fn find(alloc: Global, tree: &Tree) -> Result<Found, AllocError>
     let rows = Rows::of(alloc, tree)?;
     let Plan {
         frame,
-        proposed,
-        course,
+        entries,
+        exits,
+        loops,
+        ladders,
+        callers,
+        is_recursive,
     } = Plan::of(alloc, &rows)?;
+    // The checker takes no program of more variables than have numbers, whatever is found of it.
+    let declared = match all_declared(alloc, tree)? {
+        Some(declared) => declared,
+        None => Vec::new(alloc),
+    };
+    let course = Course {
+        ladders,
+        callers,
+        is_recursive,
+        declared,
+    };
+    let proposed = Proposed {
+        entries,
+        exits,
+        loops,
+    };
     let mut visits = Tally { entries: 0 };
     let given = given_facts(alloc, &rows, &frame, &course, proposed, &mut visits);
     let mut refusals = 0;
@@ -94,15 +114,11 @@ fn given_facts(
     let grounds = grounds(alloc, tree, frame)?;
     let claims = all_claims(alloc, tree, frame)?;
     let aliases = all_loop_aliases(alloc, tree, &grounds.pairs, &claims)?;
-    // The checker takes no program of more variables than have numbers, whatever is found of it.
-    let declared = match all_declared(alloc, tree)? {
-        Some(declared) => declared,
-        None => Vec::new(alloc),
-    };
     let state = State::of_types(alloc, grounds.version, rows);
     let walk = Walk::new(state, grounds, &claims, &aliases);
-    let mut analysis = Analysis::new(alloc, walk, course, &declared);
-    analysis.keep(alloc, proposed)?;
+    let mut analysis = Analysis::new(alloc, walk, course);
+    analysis.make_room(alloc, &proposed)?;
+    analysis.keep(proposed);
     analysis.run(visits);
     match analysis.refusal() {
         Some(refused) => Err(refused.into()),

@@ -13,36 +13,28 @@ const REPEATS: u32 = 16;
 
 // Loops: what is known comes to their heads from outside and from the ends of turns.
 impl<'a> Analysis<'a> {
-    /// The turns of a loop, which has a way if it is a for, and the way out.
+    /// A while.
     #[cycle(statement)]
-    pub(crate) fn turns(&mut self, one: &Stmt, way: &Option<Way>, left: u32, visits: &mut Tally) {
+    pub(crate) fn while_loop(
+        &mut self,
+        head: &LoopHead,
+        body: &Stmt,
+        left: u32,
+        visits: &mut Tally,
+    ) {
         for _ in 0..REPEATS {
             let mark = self.mark();
-            if !self.turn(one, way, left, visits) {
+            if !self.while_turn(head, body, left, visits) {
                 return;
             }
             self.go_back(mark);
         }
-        if self.turn(one, way, left, visits) {
-            self.make_due(self.walk.flow.grounds.block as usize);
+        if self.while_turn(head, body, left, visits) {
+            self.make_own_due();
         }
     }
 
-    // One turn, and the way out. Whether the turn moved what is known at the head.
-    #[cycle(statement)]
-    fn turn(&mut self, one: &Stmt, way: &Option<Way>, left: u32, visits: &mut Tally) -> bool {
-        match one {
-            Stmt::While { head, body } => self.while_turn(head, body, left, visits),
-            Stmt::Repeat { head, statements } => self.repeat_turn(head, statements, left, visits),
-            Stmt::For { head, body } => match way {
-                None => false,
-                Some(way) => self.for_turn(head, body, way, left, visits),
-            },
-            _ => false,
-        }
-    }
-
-    // Those of a while.
+    // One turn of it, and the way out. Whether the turn moved what is known at its head.
     #[cycle(statement)]
     fn while_turn(&mut self, head: &LoopHead, body: &Stmt, left: u32, visits: &mut Tally) -> bool {
         visits.tick(head.number);
@@ -56,7 +48,28 @@ impl<'a> Analysis<'a> {
         moved
     }
 
-    // Those of a repeat.
+    /// A repeat.
+    #[cycle(statement)]
+    pub(crate) fn repeat_loop(
+        &mut self,
+        head: &LoopHead,
+        statements: &[Stmt],
+        left: u32,
+        visits: &mut Tally,
+    ) {
+        for _ in 0..REPEATS {
+            let mark = self.mark();
+            if !self.repeat_turn(head, statements, left, visits) {
+                return;
+            }
+            self.go_back(mark);
+        }
+        if self.repeat_turn(head, statements, left, visits) {
+            self.make_own_due();
+        }
+    }
+
+    // One turn of it, and the way out. Whether the turn moved what is known at its head.
     #[cycle(statement)]
     fn repeat_turn(
         &mut self,
@@ -78,13 +91,13 @@ impl<'a> Analysis<'a> {
 
     /// A for.
     #[cycle(statement)]
-    pub(crate) fn for_loop(&mut self, one: &Stmt, head: &ForHead, left: u32, visits: &mut Tally) {
+    pub(crate) fn for_loop(&mut self, head: &ForHead, body: &Stmt, left: u32, visits: &mut Tally) {
         let from = self.value(&head.first.value, left, visits);
         let to = self.value(&head.last.value, left, visits);
         let way = Way::of(self.state().table(), head, from, to);
         let mark = self.mark();
         let steady = self.begin_turns(head.loop_number, &way);
-        self.turns(one, &Some(steady), left, visits);
+        self.for_turns(head, body, &steady, left, visits);
         self.leave_turns(mark, &way);
     }
 
@@ -108,7 +121,22 @@ impl<'a> Analysis<'a> {
         state.undefine(way.control);
     }
 
-    // One turn of it, and the way out.
+    // Its turns.
+    #[cycle(statement)]
+    fn for_turns(&mut self, head: &ForHead, body: &Stmt, way: &Way, left: u32, visits: &mut Tally) {
+        for _ in 0..REPEATS {
+            let mark = self.mark();
+            if !self.for_turn(head, body, way, left, visits) {
+                return;
+            }
+            self.go_back(mark);
+        }
+        if self.for_turn(head, body, way, left, visits) {
+            self.make_own_due();
+        }
+    }
+
+    // One turn of it, and the way out. Whether the turn moved what is known at its head.
     #[cycle(statement)]
     fn for_turn(
         &mut self,
@@ -128,7 +156,7 @@ impl<'a> Analysis<'a> {
     fn begin_turn(&mut self, number: u32, way: &Way) {
         self.enter_loop(number, Some(way.control));
         way.begin_turn(&mut self.walk.flow.state);
-        let turns = self.turns_of(number, way);
+        let turns = self.turns(number, way);
         if let Some(table) = self.loops.get_mut(number as usize) {
             table.most = turns.most;
         }
@@ -146,14 +174,14 @@ impl<'a> Analysis<'a> {
         let mark = self.mark();
         way.end_turn(&mut self.walk.flow.state);
         let moved = self.leave_turn(number, mark);
-        let turns = self.turns_of(number, way);
+        let turns = self.turns(number, way);
         turns.end(&mut self.walk.flow.state);
         way.leave(&mut self.walk.flow.state);
         moved
     }
 
     // What its turns go by, beside facts.
-    fn turns_of(&self, number: u32, way: &Way) -> Turns<'a> {
+    fn turns(&self, number: u32, way: &Way) -> Turns<'a> {
         Turns {
             round: self.walk.round(number, Some(way.control)),
             depth: self.depth,
@@ -166,6 +194,11 @@ impl<'a> Analysis<'a> {
         let moved = self.arrive_at_loop(number, true);
         self.go_back(mark);
         moved
+    }
+
+    // The block that is walked has to be walked again.
+    fn make_own_due(&mut self) {
+        self.make_due(self.walk.flow.grounds.block as usize);
     }
 
     // Goes on at the head of a loop, by what is known there so far.

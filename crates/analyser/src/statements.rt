@@ -39,8 +39,9 @@ impl<'a> Analysis<'a> {
                 }
                 self.join_behind(mark, &first);
             }
-            Stmt::While { .. } | Stmt::Repeat { .. } => self.turns(statement, &None, left, visits),
-            Stmt::For { head, .. } => self.for_loop(statement, head, left, visits),
+            Stmt::While { head, body } => self.while_loop(head, body, left, visits),
+            Stmt::Repeat { head, statements } => self.repeat_loop(head, statements, left, visits),
+            Stmt::For { head, body } => self.for_loop(head, body, left, visits),
             Stmt::Case { head, arms } => self.case(head, arms, left, visits),
             Stmt::With { head, body } => {
                 self.records(head, left, visits);

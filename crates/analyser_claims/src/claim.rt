@@ -5,21 +5,13 @@ use certificate::Fact;
 use checker_rows::Rows;
 use checker_state::{Bound, bound_form};
 use domain::facts::{self, Spans};
-use std::mem;
 use typed_tree::tree::Expr;
 
-/// How many stretches of one array are proposed in a block at most, how many of its rows, and how many orders of one
-/// variable.
-const MOST_OF_VARIABLE: usize = 24;
+/// How many stretches of one array are proposed in a block at most, how many of its rows, and how many orders.
+const MOST_OF_ARRAY: usize = 24;
 
-/// How many claims that name a variable count where it is changed or mentioned.
-const MOST_NAMING: usize = 96;
-
-/// How many claims are gathered before they are added.
-pub(crate) const MANY: usize = 4096;
-
-/// The least number at which an order begins.
-const LEAST_NUMBER: i64 = -32;
+/// How many claims; those of rows of matrices count for themselves, and push out no others.
+const MOST_OF_BLOCK: usize = 120;
 
 /// A number, or the value of a variable plus a number.
 #[derive(Clone, Copy, PartialEq, Eq, PartialOrd, Ord)]
@@ -72,8 +64,8 @@ pub enum Claim {
     /// The elements of an array from one end to another are defined; of a matrix perhaps only those whose second index
     /// lies between two other ends.
     Defined(Array, End, End, Option<(End, End)>),
-    /// The value of one variable is at most that of another plus a number, from this on.
-    Order(u32, u32, i64),
+    /// The value of one variable is at most that of another, or nearly.
+    Order(u32, u32),
 }
 
 impl Claim {
@@ -87,27 +79,30 @@ impl Claim {
                 };
                 [Some(array.root), first.root, last.root, low, high]
             }
-            Claim::Order(root, other, _) => [Some(*root), Some(*other), None, None, None],
+            Claim::Order(root, other) => [Some(*root), Some(*other), None, None, None],
         }
+    }
+
+    /// Whether it names one of some variables, which ascend.
+    pub fn names_any(&self, roots: &[u32]) -> bool {
+        let named = self.roots();
+        let mut named = named.iter().flatten();
+        named.any(|root| roots.binary_search(root).is_ok())
     }
 
     /// Whether it is of one of some variables, which ascend: of an array of theirs, or their order.
     pub fn is_of_any(&self, roots: &[u32]) -> bool {
         match self {
             Claim::Defined(array, ..) => roots.binary_search(&array.root).is_ok(),
-            Claim::Order(root, other, _) => {
-                roots.binary_search(root).is_ok() || roots.binary_search(other).is_ok()
-            }
+            Claim::Order(..) => self.names_any(roots),
         }
     }
 
-    /// It as certificates tell it, if they have its numbers. An order begins below the least number that is told of it.
+    /// It as certificates tell it, if they have its numbers. An order begins at the least number that is tried.
     pub fn fact(&self, program: &Program) -> Option<Fact> {
         match self {
             Claim::Defined(array, first, last, inner) => {
-                let types = &program.tree.types;
-                let mut parts = program.parts(array.root).iter();
-                let part = parts.find(|part| part.is_array(types, *array))?;
+                let part = program.parts(array.root).get(array.part)?;
                 let span = said_span(*first, *last)?;
                 let spans = match inner {
                     None => Spans::One(span),
@@ -116,10 +111,10 @@ impl Claim {
                 let path = part.path(&program.memory);
                 Some(Fact::Defined { path, spans })
             }
-            Claim::Order(root, other, least) => Some(Fact::Order {
+            Claim::Order(root, other) => Some(Fact::Order {
                 root: *root,
                 other: *other,
-                number: Bound::of_number(least.saturating_sub(1).max(LEAST_NUMBER).min(-1))?.number,
+                number: -1,
             }),
         }
     }
@@ -132,104 +127,33 @@ impl Claim {
         }
     }
 
-    // Of what it is: claims ascend by that.
-    fn subject(&self) -> (bool, u32, usize) {
-        match self {
-            Claim::Defined(array, ..) => (false, array.root, array.row),
-            Claim::Order(root, ..) => (true, *root, 0),
-        }
-    }
-
-    // How many others of the same stand among claims that ascend.
-    fn beside(&self, claims: &[Claim]) -> usize {
-        let first = claims.partition_point(|other| other.subject() < self.subject());
-        let of_same = claims
-            .iter()
-            .skip(first)
-            .take_while(|other| other.subject() == self.subject());
-        of_same
-            .filter(|other| other.is_of_rows() == self.is_of_rows())
-            .count()
-    }
-
-    // Whether it is among claims that ascend, or an order that begins lower.
-    fn is_told(&self, claims: &[Claim]) -> bool {
-        let behind = claims.partition_point(|other| *other <= *self);
-        let last = behind.checked_sub(1);
-        match last.and_then(|place| claims.get(place)) {
-            None => false,
-            Some(last) => last.is_twin(self),
-        }
-    }
-
-    // Whether it is the same, or an order of the same variables.
-    fn is_twin(&self, other: &Claim) -> bool {
+    // Whether both are of one array, or of none.
+    fn is_beside(&self, other: &Claim) -> bool {
         match (self, other) {
-            (Claim::Order(one, another, _), Claim::Order(root, second, _)) => {
-                one == root && another == second
+            (Claim::Defined(array, ..), Claim::Defined(another, ..)) => array == another,
+            (Claim::Order(..), Claim::Order(..)) => true,
+            _ => false,
+        }
+    }
+
+    /// Adds it to claims, which ascend, unless there are many.
+    pub(crate) fn add_to(self, memory: &Memory, claims: &mut Vec<Claim>) {
+        if let Err(place) = claims.binary_search(&self) {
+            let (mut alike, mut beside) = (0usize, 0usize);
+            for other in claims
+                .iter()
+                .filter(|other| self.is_of_rows() == other.is_of_rows())
+            {
+                alike = alike.saturating_add(1);
+                if self.is_beside(other) {
+                    beside = beside.saturating_add(1);
+                }
             }
-            _ => self == other,
-        }
-    }
-}
-
-/// Adds what was found to claims, which ascend, once it is more than so many: each, unless there are many of the same.
-/// Of orders of the same variables the one stays that begins the lowest.
-pub(crate) fn add_all(
-    memory: &Memory,
-    claims: &mut Vec<Claim>,
-    found: &mut Vec<Claim>,
-    many: usize,
-) {
-    if found.len() <= many {
-        return;
-    }
-    let mut fresh = mem::replace(found, memory.none());
-    fresh.retain(|claim| !claim.is_told(claims));
-    fresh.sort_unstable();
-    fresh.dedup_by(|next, one| one.is_twin(next));
-    let mut added = memory.none();
-    for claim in fresh {
-        let beside = claim.beside(claims).saturating_add(claim.beside(&added));
-        if beside < MOST_OF_VARIABLE {
-            memory.push(&mut added, claim);
-        }
-    }
-    if !added.is_empty() {
-        for claim in added {
-            memory.push(claims, claim);
-        }
-        claims.sort_unstable();
-        claims.dedup_by(|next, one| one.is_twin(next));
-    }
-}
-
-/// Claims by the variables that they name; it ascends.
-pub(crate) fn by_name(memory: &Memory, claims: &[Claim]) -> Vec<(u32, Claim)> {
-    let mut named = memory.none();
-    for claim in claims {
-        for root in claim.roots().iter().flatten() {
-            memory.push(&mut named, (*root, *claim));
-        }
-    }
-    named.sort_unstable();
-    named.dedup();
-    named
-}
-
-/// Those that name one of some variables; one may stand there more than once.
-pub fn naming(memory: &Memory, named: &[(u32, Claim)], roots: &[u32]) -> Vec<Claim> {
-    let mut claims = memory.none();
-    for root in roots {
-        let first = named.partition_point(|(other, _)| *other < *root);
-        for (other, claim) in named.iter().skip(first).take(MOST_NAMING) {
-            if other != root {
-                break;
+            if alike < MOST_OF_BLOCK && beside < MOST_OF_ARRAY {
+                memory.insert(claims, place, self);
             }
-            memory.push(&mut claims, *claim);
         }
     }
-    claims
 }
 
 // A span as certificates tell it, if they have its numbers.

@@ -10,6 +10,6 @@ pub mod lists;
 mod parts;
 mod program;
 
-pub use claim::{Claim, naming};
+pub use claim::Claim;
 pub use parts::Part;
 pub use program::Program;

@@ -27,7 +27,7 @@ impl<'p, 't> Program<'p, 't> {
         for block in &tree.blocks {
             memory.push(&mut events, memory.list(events_of(alloc, &block.body)));
         }
-        let parts = all_parts(&memory, rows);
+        let parts = all_parts(&memory, tree);
         Program {
             memory,
             rows,

@@ -46,13 +46,10 @@ fn close(memory: &Memory, open: &mut Vec<(u32, Vec<u32>)>, found: &mut [Vec<u32>
     }
 }
 
-/// The variables that may share a place, and the same in ascending order. The second is a parameter of the block on
-/// which they are listed, and the first another, or a variable of a block round it.
-pub(crate) fn alias_pairs<'t>(
-    program: &Program<'_, 't>,
-) -> Result<(Pairs<'t>, Vec<(u32, u32)>), AllocError> {
+/// The variables that may share a place, in ascending order. The second is a parameter of the block on which they are
+/// listed, and the first another, or a variable of a block round it.
+pub(crate) fn alias_pairs<'t>(program: &Program<'_, 't>) -> Result<Pairs<'t>, AllocError> {
     let memory = &program.memory;
-    let mut all = memory.none();
     let mut listed = Pairs::of(memory.alloc, program.tree, memory.none())?;
     for _ in 0..u64::MAX {
         let mut has_grown = false;
@@ -67,7 +64,6 @@ pub(crate) fn alias_pairs<'t>(
             for (first, second) in found {
                 if !listed.has(first, second) {
                     listed = listed.with(memory.alloc, AliasPair { first, second })?;
-                    memory.push(&mut all, (first, second));
                     has_grown = true;
                 }
             }
@@ -76,8 +72,34 @@ pub(crate) fn alias_pairs<'t>(
             break;
         }
     }
-    all.sort_unstable();
-    Ok((listed, all))
+    Ok(listed)
+}
+
+// The pairs that calls make of some.
+fn pairs_made(program: &Program, listed: &Pairs) -> Vec<AliasPair> {
+    let memory = &program.memory;
+    let mut found = memory.none();
+    for (caller, events) in program.events.iter().enumerate() {
+        for event in events {
+            if let Event::Call { call, actuals } = event {
+                add_pairs(
+                    program,
+                    &mut found,
+                    listed,
+                    number_of(caller),
+                    call.block,
+                    actuals,
+                );
+            }
+        }
+    }
+    found.sort_unstable();
+    found.dedup();
+    let mut pairs = memory.none();
+    for (first, second) in found {
+        memory.push(&mut pairs, AliasPair { first, second });
+    }
+    pairs
 }
 
 // Those that a call in one block of another makes.
@@ -119,7 +141,7 @@ fn add_pairs(
 /// pairs.
 pub(crate) fn frame(
     program: &Program,
-    pairs: Vec<(u32, u32)>,
+    listed: &Pairs,
     changes: Vec<Vec<u32>>,
     turns: Vec<Vec<u32>>,
 ) -> Certificate {
@@ -128,11 +150,11 @@ pub(crate) fn frame(
     for (number, changes) in changes.into_iter().enumerate() {
         memory.push(&mut sections, section(memory, number_of(number), changes));
     }
-    for (first, second) in pairs {
-        if let Some(variable) = program.tree.variables.get(second as usize)
+    for pair in pairs_made(program, listed) {
+        if let Some(variable) = program.tree.variables.get(pair.second as usize)
             && let Some(section) = sections.get_mut(variable.block as usize)
         {
-            memory.push(&mut section.aliases, AliasPair { first, second });
+            memory.push(&mut section.aliases, pair);
         }
     }
     for (number, changes) in turns.into_iter().enumerate() {

@@ -2,7 +2,7 @@
 
 use analyser_claims::events::Event;
 use analyser_claims::lists::{row, settle};
-use analyser_claims::{Claim, Program, naming};
+use analyser_claims::{Claim, Program};
 use analyser_tables::growth_of;
 use certificate::Fact;
 use checker_calls::visible::{is_outward, is_value_parameter};
@@ -11,40 +11,29 @@ use domain::facts::Spans;
 use domain::interval::Interval;
 use types::TypeTable;
 
-/// How many claims are proposed at a place at most.
-const MOST_CLAIMS: usize = 1000;
-
 /// What proposals are made of, by block number, and what turns change by loop number.
 #[derive(Clone, Copy)]
 pub(crate) struct Grounds<'g, 'p, 't> {
     pub(crate) program: &'g Program<'p, 't>,
     pub(crate) pairs: &'g Pairs<'t>,
-    pub(crate) claims: &'g [Vec<(u32, Claim)>],
+    pub(crate) claims: &'g [Vec<Claim>],
     pub(crate) mentions: &'g [Vec<u32>],
     pub(crate) changes: &'g [Vec<u32>],
     pub(crate) turns: &'g [Vec<u32>],
 }
 
 impl<'g, 'p, 't> Grounds<'g, 'p, 't> {
-    /// What may hold where a block begins: also that those variables are defined which only claims name.
+    /// What may hold where a block begins.
     pub(crate) fn entry(&self, block: u32) -> Vec<Fact> {
         let mut facts = self.program.memory.none();
-        let mut named = self.program.memory.none();
         let mentions = row(self.mentions, block);
         self.add_ranges(mentions, &mut facts);
-        for claim in self.naming(block, mentions) {
-            if claim.is_of_any(mentions) && self.may_stand(block, &claim, &[]) {
-                self.add(&claim, &mut facts);
-                for root in claim.roots().iter().flatten() {
-                    self.program.memory.push(&mut named, *root);
-                }
+        self.add_defined(&self.lasting(block, mentions), &mut facts);
+        for claim in row(self.claims, block) {
+            if claim.is_of_any(mentions) && self.may_stand(block, claim, &[]) {
+                self.add(claim, &mut facts);
             }
         }
-        for root in mentions {
-            self.program.memory.push(&mut named, *root);
-        }
-        settle(&mut named);
-        self.add_defined(&self.lasting(block, &named), &mut facts);
         facts
     }
 
@@ -58,9 +47,9 @@ impl<'g, 'p, 't> Grounds<'g, 'p, 't> {
         }
         self.add_ranges(&ranges, &mut facts);
         self.add_defined(&self.lasting(block, row(self.mentions, block)), &mut facts);
-        for claim in self.naming(block, changes) {
-            if self.may_stand(block, &claim, changes) {
-                self.add(&claim, &mut facts);
+        for claim in row(self.claims, block) {
+            if claim.names_any(changes) && self.may_stand(block, claim, changes) {
+                self.add(claim, &mut facts);
             }
         }
         facts
@@ -102,23 +91,14 @@ impl<'g, 'p, 't> Grounds<'g, 'p, 't> {
         if one.control.is_some() {
             self.add_growths(changes, &mut facts);
         }
-        for claim in self.naming(one.block, changes) {
+        for claim in row(self.claims, one.block) {
             let roots = claim.roots();
             let mut named = roots.iter().flatten();
-            if !named.any(|root| one.controls.contains(root)) {
-                self.add(&claim, &mut facts);
+            if claim.names_any(changes) && !named.any(|root| one.controls.contains(root)) {
+                self.add(claim, &mut facts);
             }
         }
         facts
-    }
-
-    // The claims of a block that name one of some variables.
-    fn naming(&self, block: u32, roots: &[u32]) -> Vec<Claim> {
-        let mut claims = naming(&self.program.memory, row(self.claims, block), roots);
-        claims.sort_unstable();
-        claims.dedup();
-        claims.truncate(MOST_CLAIMS);
-        claims
     }
 
     // Those of some variables that no block has by value.

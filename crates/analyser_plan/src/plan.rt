@@ -15,25 +15,12 @@ pub struct Plan {
     /// A section for each block, with claims for each loop, by their numbers: the pairs that may share a place, and
     /// what is changed. No facts.
     pub frame: Certificate,
-    pub proposed: Proposed,
-    pub course: Course,
-}
-
-/// Facts, beside the frame.
-#[derive(Drop)]
-pub struct Proposed {
     /// What may hold where each block begins, by its number; nothing for the program's.
     pub entries: Vec<Vec<Fact>>,
     /// What may hold where it ends, likewise.
     pub exits: Vec<Vec<Fact>>,
     /// What may hold whenever a turn of each loop begins, by its number.
     pub loops: Vec<Vec<Fact>>,
-}
-
-/// By what a walk over the program goes that doesn't move.
-#[derive(Drop)]
-pub struct Course {
-    /// Where the ends of ranges stop that move.
     pub ladders: Ladders,
     /// The blocks that call each, ascending, by its number.
     pub callers: Vec<Vec<u32>>,
@@ -52,7 +39,7 @@ impl Plan {
         let changes = spread(&program, &callers, Question::Changed);
         let mentions = spread(&program, &callers, Question::Mentioned);
         let turns = loop_changes(&program, &changes);
-        let (pairs, listed) = alias_pairs(&program)?;
+        let pairs = alias_pairs(&program)?;
         let claims = program.all_claims(&mentions);
         let grounds = Grounds {
             program: &program,
@@ -76,20 +63,16 @@ impl Plan {
         add_steps(&program, &mut ladders);
         ladders.finish()?;
         let is_recursive = all_recursive(&program.memory, &callers);
-        let frame = frame(&program, listed, changes, turns);
+        let frame = frame(&program, &pairs, changes, turns);
         program.memory.finish()?;
         Ok(Plan {
             frame,
-            proposed: Proposed {
-                entries,
-                exits,
-                loops,
-            },
-            course: Course {
-                ladders,
-                callers,
-                is_recursive,
-            },
+            entries,
+            exits,
+            loops,
+            ladders,
+            callers,
+            is_recursive,
         })
     }
 }

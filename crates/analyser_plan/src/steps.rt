@@ -112,9 +112,9 @@ fn test(rows: &Rows, value: &Expr, range: OrdinalRange, ladders: &mut Ladders) {
 fn meet(rows: &Rows, value: &Expr, other: &Expr, ladders: &mut Ladders) {
     match spelled(rows, other) {
         Some(Spelling::Constant(constant)) => {
-            for by in [-1, 0, 1] {
-                step(rows, value, constant.saturating_add(by), ladders);
-            }
+            step(rows, value, constant.saturating_sub(1), ladders);
+            step(rows, value, constant, ladders);
+            step(rows, value, constant.saturating_add(1), ladders);
         }
         Some(Spelling::Moved(row, _)) => join(rows, row, value, ladders),
         None => {}

@@ -22,7 +22,6 @@ use crate::instrs::{
 use code_scheme::routine::Routine;
 use code_scheme::scope::{GREATEST_OFFSET, LINKS, Scope, selectors_from};
 use pcode_assembler::instr::Instr;
-use pcode_assembler::set_members::SetMembers;
 use typed_tree::tree::{
     Access, Calculation, Call, Designator, Dyadic, Expr, Link, Monadic, Passed, RangeTest,
     Relation, Selector, Shift, Whole,
@@ -99,9 +98,7 @@ fn emit_set(code: &mut Emitter, scope: &Scope, designators: &[Designator], membe
     ensures needs { result ≡ capped (designators_depth 0 designators.now (index_depths members.now)) }
 {
     if designators.is_empty() {
-        code.put(Instr::LoadSet {
-            members: SetMembers::NONE,
-        });
+        code.put(Instr::LoadSet { members: 0 });
         1
     } else {
         emit_designators(code, scope, designators, members)

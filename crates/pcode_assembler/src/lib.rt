@@ -10,7 +10,6 @@ pub mod instr;
 mod labels;
 mod lines;
 mod operands;
-pub mod set_members;
 mod table;
 mod words;
 pub mod writer;

@@ -4,7 +4,6 @@ ghost use Rattle.pcode_assembler.specs.Table as spec;
 ghost use Rattle.pcode_assembler.specs.Writable.{check_site, jump_target, read_point};
 
 use crate::instr::Instr;
-use crate::set_members::SetMembers;
 use crate::table::{
     FRAME_LIMIT, ID_LIMIT, LENGTH_LIMIT, LEVEL_LIMIT, OFFSET_LIMIT, RESULT_LIMIT, Shape,
 };
@@ -128,9 +127,7 @@ impl Instr {
         match self.shape() {
             Shape::Nothing => None,
             Shape::Number => number(words).map(|value| Instr::LoadConstant { value }),
-            Shape::Members => members(words).map(|number| Instr::LoadSet {
-                members: SetMembers::of(number),
-            }),
+            Shape::Members => members(words).map(|members| Instr::LoadSet { members }),
             Shape::Natural { limit } => natural(limit, words).map(|n| self.with_natural(n)),
             Shape::Small { limit } => small(limit, words).map(|n| self.with_small(n)),
             Shape::Cell => cell(words).map(|operands| self.with_cell(operands.0, operands.1)),

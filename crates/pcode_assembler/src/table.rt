@@ -4,7 +4,6 @@ ghost use Rattle.std.specs.Str.{bytes_eq};
 ghost use Rattle.pcode_assembler.specs.Table as spec;
 
 use crate::instr::Instr;
-use crate::set_members::SetMembers;
 
 /// The form of an instruction's operands, with the limits of its natural numbers.
 #[derive(Clone, Copy)]
@@ -43,9 +42,7 @@ pub(crate) const ID_LIMIT: u32 = 999_999;
 /// An instruction of each word, whatever its operands.
 const TEMPLATES: [Instr; 68] = [
     Instr::LoadConstant { value: 0 },
-    Instr::LoadSet {
-        members: SetMembers::NONE,
-    },
+    Instr::LoadSet { members: 0 },
     Instr::LoadAddress {
         level: 0,
         offset: 0,

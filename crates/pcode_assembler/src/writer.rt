@@ -121,7 +121,7 @@ fn put_operands(writer: &mut Writer, instr: &Instr)
 {
     match instr {
         Instr::LoadConstant { value } => put_number(writer, *value),
-        Instr::LoadSet { members } => put_members(writer, members.number()),
+        Instr::LoadSet { members } => put_members(writer, *members),
         Instr::IndexAddress { low, size } => {
             put_number(writer, *low);
             put_natural(writer, *size);

@@ -8,6 +8,7 @@ mod halt;
 pub mod laws;
 pub mod machine;
 mod rows;
+mod set_row;
 pub mod stop;
 mod store;
 mod writing;

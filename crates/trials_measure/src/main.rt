@@ -1,8 +1,7 @@
 //! A program that measures and compares, by its first word: `bench RUNS` runs a code of 999,999 straight-line
 //! instructions so many times, `visits SOURCE ..` tells of each source what it takes to find its certificate,
-//! `left SOURCE CERTIFICATE` writes what is left of a certificate once the checker accepts it, `pairs CODE CELLS
-//! BUDGET ..` compares the runs of a code with its prepared steps and without them, and `shares CODE BUDGET` tells how
-//! many instructions of a run are taken singly.
+//! `pairs CODE CELLS BUDGET ..` compares the runs of a code with its prepared steps and without them, and
+//! `shares CODE BUDGET` tells how many instructions of a run are taken singly.
 #![tactic(auto)]
 
 mod bench;
@@ -24,7 +23,6 @@ fn measure(rt: &HostRuntime, word: &str, more: &[String]) -> io::Result<()> {
     match word {
         "bench" => bench::bench(rt, more),
         "visits" => visits::visits(rt, more),
-        "left" => visits::left(rt, more),
         "pairs" => pairs::pairs(rt, more),
         "shares" => shares::shares(rt, more),
         _ => println!(rt; "no such measure"),

@@ -1,12 +1,9 @@
 //! What it takes to find certificates.
 
-use analyser::accepting::accepted;
 use analyser::find;
-use certificate::{read, write};
 use report::compile::compile;
 use report::fault::Fault;
 use std::alloc::Global;
-use std::io::Write;
 use std::{fs, io};
 
 /// What it takes to find a certificate.
@@ -41,28 +38,4 @@ fn counted(alloc: Global, source: &[u8]) -> Result<Counts, Fault> {
         entries: compiled.verdict.visits,
         refusals: found.refusals,
     })
-}
-
-/// Writes what is left of a source's certificate once the checker accepts it, and how often it refused more.
-pub(crate) fn left(rt: &HostRuntime, paths: &[String]) -> io::Result<()> {
-    let [source, certificate] = paths else {
-        return println!(rt; "no source, or no certificate");
-    };
-    let source = fs::read(rt, source.as_str())?;
-    let certificate = fs::read(rt, certificate.as_str())?;
-    let mut refusals = 0;
-    match left_of(rt.alloc(), &source, &certificate, &mut refusals) {
-        None => println!(rt; "refused"),
-        Some(text) => {
-            rt.stdout().write_all(&text)?;
-            println!(rt; "refusals {refusals}")
-        }
-    }
-}
-
-fn left_of(alloc: Global, source: &[u8], text: &[u8], refusals: &mut u32) -> Option<Vec<u8>> {
-    let compiled = compile(alloc, source, None).ok()?;
-    let certificate = read(alloc, text).ok()?;
-    let left = accepted(alloc, &compiled.tree, certificate, refusals).ok()?;
-    write(alloc, &left).ok()
 }

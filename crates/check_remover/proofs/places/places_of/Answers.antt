@@ -16,12 +16,11 @@ loop-instr-preserved c =
     let i = c.loop-instr.instr-index in
     let so_far = c.loop-instr.invariant in
     let next = c.in_ok-push.ensures.items in
-    let asked = ap (stays test) (sym c.instr-item.is) ∙ sym c.keep.ensures in
     let kept : c.if-keep.kept ≡ moved_place test code (i + 1) =
     elim c.if-keep.branch [
       | then-keep w ↦ w.kept-is ∙ ap (λ n. n + 1) so_far.2 ∙ sym
-          (count_by_more_yes (stays test) code i _ c.loop-instr-test.true (asked ∙ w.if-keep.true))
-      | else-keep w ↦ w.kept-is ∙ so_far.2 ∙ sym (count_by_more_no (stays test) code i _ c.loop-instr-test.true (asked ∙ w.if-keep.false))
+          (count_by_more_yes (stays test) code i _ c.loop-instr-test.true (sym c.keep.ensures ∙ w.if-keep.true))
+      | else-keep w ↦ w.kept-is ∙ so_far.2 ∙ sym (count_by_more_no (stays test) code i _ c.loop-instr-test.true (sym c.keep.ensures ∙ w.if-keep.false))
     ] in (
       one_longer c.loop-instr.places.items c.push.new.self.items c.loop-instr.kept i next so_far.0,
       one_place_more (moved_place test code) c.loop-instr.places.items c.push.new.self.items c.loop-instr.kept i next so_far.0 so_far.1 so_far.2,

@@ -1,10 +1,7 @@
-//! The members of sets beside the cells of a store.
-#![tactic(auto)]
-
 ghost use Rattle.std.specs.Prelude.{◌≡◌, ◌+◌, ◌-◌, ◌<◌, ◌≤◌, ℕ, List, ◌++◌, length, replicate, slice_index, slice_set};
 ghost use Rattle.std.specs.Prelude.{IfOk, vec_len, vec_capacity};
 ghost use Rattle.std.specs.List.{copy_within};
-ghost use Rattle.set_row.specs.Empty.{with_empty};
+ghost use Rattle.stack_machine.specs.Cells.{with_empty};
 
 use std::alloc::{AllocError, Global};
 use std::marker::Model;

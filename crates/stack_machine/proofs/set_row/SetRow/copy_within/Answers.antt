@@ -1,8 +1,8 @@
 use Rattle.std.proofs.Common.{◌∙◌, ◌+◌, ◌≤◌, ap, arith, length}
 use Rattle.std.specs.List.{copy_within}
-use Rattle.set_row.specs.Empty.{with_empty}
-use Rattle.set_row.proofs.Written.{copied, length-with_empty, longer, reached}
-use Rattle.set_row.proofs.SetRow.copy_within.Goals as goal
+use Rattle.stack_machine.specs.Cells.{with_empty}
+use Rattle.stack_machine.proofs.Written.{copied, length-with_empty, longer, reached}
+use Rattle.stack_machine.proofs.set_row.SetRow.copy_within.Goals as goal
 
 pub returns : goal.returns
 returns c =

@@ -4,7 +4,7 @@ use Rattle.std.specs.Prelude.{slice_set}
 use Rattle.std.specs.List.{copy_within}
 use Rattle.std.proofs.lemmas.List.{drop-append-le, length-append, length-drop}
 use Rattle.std.proofs.lemmas.List.{length-replicate, length-set, length-take-le, replicate-append-replicate, set-append_left, take-append-le}
-use Rattle.set_row.specs.Empty.{with_empty}
+use Rattle.stack_machine.specs.Cells.{with_empty}
 
 -- how many there are
 long_with : (xs : List ℕ) (n : ℕ) → length (with_empty xs n) ≡ length xs + (n - length xs)

@@ -1,8 +1,8 @@
 use Rattle.std.proofs.Common.{◌∙◌, ◌+◌, ◌<◌, ◌≤◌, ap, arith, length}
 use Rattle.std.specs.Prelude.{slice_set}
-use Rattle.set_row.specs.Empty.{with_empty}
-use Rattle.set_row.proofs.Written.{length-with_empty, longer, put_at, reached}
-use Rattle.set_row.proofs.SetRow.put.Goals as goal
+use Rattle.stack_machine.specs.Cells.{with_empty}
+use Rattle.stack_machine.proofs.Written.{length-with_empty, longer, put_at, reached}
+use Rattle.stack_machine.proofs.set_row.SetRow.put.Goals as goal
 
 pub returns : goal.returns
 returns c =
