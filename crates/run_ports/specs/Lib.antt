@@ -3,4 +3,3 @@ pub mod Output
 pub mod Ports
 pub mod Reads
 pub mod Steps
-pub mod Wanted

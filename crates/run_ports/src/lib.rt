@@ -5,4 +5,3 @@ pub mod fault;
 mod input;
 mod output;
 pub mod ports;
-pub mod wanted;
