@@ -1,10 +1,11 @@
 -- The next byte is looked at: it is held, or the output goes out and the reader is called.
-use Rattle.std.proofs.Common.{◌≡◌, ℕ, ◌+◌, ◌<◌, zero, suc, List, [], ◌∷◌, ◌++◌, length, take, drop, refl, ap, sym, ◌∙◌, subst, arith}
+use Rattle.std.proofs.Common.{◌≡◌, ℕ, ℤ, pos, ◌+◌, ◌<◌, zero, suc, List, [], ◌∷◌, ◌++◌, length, take, drop, refl, ap, sym, ◌∙◌, subst, arith}
 use Rattle.std.proofs.Common.{Bool, true, false, Option, None, Some, Result, Ok, Err, inr}
 use Rattle.std.specs.Prelude.{◌||◌, if◌then◌else◌, nat_eq, MatchOption, is_none, is_some, not}
 use Rattle.std.proofs.lemmas.List.{length-take-le}
 use Rattle.std.proofs.lemmas.Bool.Decides.{nat_tests}
 use Rattle.std.specs.Io.KnownBytes.{Appends}
+use mir.Val.{bool_byte}
 use Rattle.text_input.specs.declared.InputFault.{InputFault}
 use Rattle.text_input.specs.declared.InputFault.TheVariants.{EndOfInput}
 use Rattle.text_input.specs.Input.{Reading, Reads as ReadsIt, Fails, Ends}
@@ -17,8 +18,10 @@ use Rattle.run_ports.specs.Feeding.{is_ended, joined, last_call, left, window}
 use Rattle.run_ports.specs.declared.output.Output.{Output}
 use Rattle.run_ports.specs.Output.{held_by, ports}
 use Rattle.run_ports.specs.Ports.{Ports, Loses, Offers, piece_of}
-use Rattle.run_ports.specs.Reads.{Answers, GoesOutAs, Reads, lost_in, read_end, read_failures_in}
+use Rattle.run_ports.specs.Reads.{Answers, GoesOutAs, Reads, lost_in, read_failures_in}
 use Rattle.run_ports.specs.Steps.{Fills, looked_at, peeked}
+use Rattle.run_ports.specs.Wanted.{one_if, read_wanted}
+use Rattle.run_ports.specs.declared.wanted.Wanted.TheVariants as wanted
 use Rattle.run_ports.proofs.Calls.{Gave-none}
 use Rattle.run_ports.proofs.Filled.{left-ended, left-goes, window-none}
 use Rattle.run_ports.proofs.Reading.{Begins, Reads-as, Reads-stops, or_false}
@@ -248,33 +251,35 @@ Look-stops e old new a b before after h = Reads-stops peeked (λ fails. looked_a
 
 -- ---- the end
 
-end_ends : (fails : Bool) (xs : List ℕ) → peeked fails xs ≡ Ends → read_end fails xs ≡ Ends
+end_ends : (fails : Bool) (xs : List ℕ) → peeked fails xs ≡ Ends → read_wanted wanted.End fails xs ≡ Ends
 end_ends true [] e = refl
 end_ends false [] e = cc
 end_ends fails (x ∷ xs) e = cc
 
-ends : Begins peeked read_end
-ends = record { faults = λ fails xs. peeked_faults (read_end fails xs) fails xs; ends = end_ends }
+end_faults : (fails : Bool) (xs : List ℕ) (fault : InputFault) → peeked fails xs ≡ Fails fault → read_wanted wanted.End fails xs ≡ Fails fault
+end_faults fails xs fault e = peeked_faults (read_wanted wanted.End fails xs) fails xs fault e
 
-end_told : (byte : Option ℕ) (fails : Bool) (xs rest : List ℕ) → peeked fails xs ≡ ReadsIt byte rest → read_end fails xs ≡ ReadsIt (is_none byte) rest
+end_told : (byte : Option ℕ) (fails : Bool) (xs rest : List ℕ) → peeked fails xs ≡ ReadsIt byte rest
+    → read_wanted wanted.End fails xs ≡ ReadsIt (one_if (is_none byte)) rest
 end_told byte true [] rest e = cc
 end_told None false [] rest e = cc
 end_told (Some byte) false [] rest e = cc
 end_told None fails (x ∷ xs) rest e = cc
 end_told (Some byte) fails (x ∷ xs) rest e = cc
 
-end_is : (byte : Option ℕ) (told : Bool) → is_some byte ≡ not told → is_none byte ≡ told
+end_is : (byte : Option ℕ) (told : Bool) → is_some byte ≡ not told → one_if (is_none byte) ≡ pos (bool_byte told)
 end_is None true e = refl
 end_is None false e = cc
 end_is (Some byte) true e = cc
 end_is (Some byte) false e = refl
 
-pub End-told : (byte : Option ℕ) (told : Bool) (old new : RunPorts) (a b : Feeds) (before after : Ports) → is_some byte ≡ not told
-    → Reads peeked (Ok byte) old new a b before after → Reads read_end (Ok told) old new a b before after
-End-told byte told old new a b before after e h =
-    subst (λ x. Reads read_end (Ok x) old new a b before after) (end_is byte told e)
-    (Reads-as peeked read_end (Ok byte) (Ok (is_none byte)) old new a b before after refl refl (end_told byte) (end_ends true) h)
+pub End-told : (byte : Option ℕ) (told : Bool) (n : ℤ) (old new : RunPorts) (a b : Feeds) (before after : Ports) → is_some byte ≡ not told
+    → n ≡ pos (bool_byte told) → Reads peeked (Ok byte) old new a b before after → Reads (read_wanted wanted.End) (Ok n) old new a b before after
+End-told byte told n old new a b before after e number h =
+    subst (λ x. Reads (read_wanted wanted.End) (Ok x) old new a b before after) (end_is byte told e ∙ sym number)
+    (Reads-as peeked (read_wanted wanted.End) (Ok byte) (Ok (one_if (is_none byte))) old new a b before after refl refl (end_told byte) (end_ends true) h)
 
 pub End-stops : (e : ReadStop) (old new : RunPorts) (a b : Feeds) (before after : Ports) → Reads peeked (Err e) old new a b before after
-    → Reads read_end (Err e) old new a b before after
-End-stops e old new a b before after h = Reads-stops peeked read_end e old new a b before after ends h
+    → Reads (read_wanted wanted.End) (Err e) old new a b before after
+End-stops e old new a b before after h =
+    Reads-stops peeked (read_wanted wanted.End) e old new a b before after (record { faults = end_faults; ends = end_ends }) h

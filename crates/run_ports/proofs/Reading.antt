@@ -1,7 +1,7 @@
 -- What operations on the input read, one after the other.
 use Rattle.std.proofs.Common.{◌≡◌, ℕ, zero, suc, List, [], ◌∷◌, ◌++◌, length, refl, ap, sym, ◌∙◌, subst, append-nil, arith}
 use Rattle.std.proofs.Common.{Bool, true, false, Result, Ok, Err, inl, inr}
-use Rattle.std.specs.Prelude.{◌||◌, if◌then◌else◌}
+use Rattle.std.specs.Prelude.{ℤ, ◌||◌, if◌then◌else◌}
 use Rattle.std.specs.Io.KnownBytes.{Appends}
 use Rattle.text_input.specs.declared.InputFault.{InputFault}
 use Rattle.text_input.specs.Input.{Reading, Reads as ReadsIt, Fails, Ends}
@@ -13,6 +13,7 @@ use Rattle.run_ports.specs.Feeding.{joined, last_call, left}
 use Rattle.run_ports.specs.Ports.{Ports, Offers, piece_of}
 use Rattle.run_ports.specs.Reads.{Answers, GoesOutAs, Reads, lost_in, read_failures_in}
 use Rattle.run_ports.specs.Steps.{Takes}
+use Rattle.run_ports.specs.Wanted.{read_with}
 use Rattle.run_ports.proofs.Calls.{Each-map, Follows, Gave-then, behind-behind, calls-then, ended-then, failed-then, joined-append, joined-calls, may_first}
 use Rattle.run_ports.proofs.Calls.{may_second, needed-then, tail_then}
 use Rattle.run_ports.proofs.Written.{Appends-then, Offers-then}
@@ -54,6 +55,19 @@ Reads-stops r t read_stop.ReadFailed old new a b before after begins h =
     (λ fails xs rest x. (begins.ends fails xs x.0, x.1)) (begins.ends true) h
 Reads-stops r t read_stop.WriteFailed old new a b before after begins h =
     Reads-as r t (Err read_stop.WriteFailed) (Err read_stop.WriteFailed) old new a b before after refl refl (λ fails xs rest x. tt) (begins.ends true) h
+
+-- what is read is made a number
+pub With-told : {A : Type 0} (f : A → ℤ) (r : Bool → List ℕ → Reading A) (value : A) (old new : RunPorts) (a b : Feeds) (before after : Ports)
+    → Reads r (Ok value) old new a b before after → Reads (λ fails bytes. read_with f (r fails bytes)) (Ok (f value)) old new a b before after
+With-told f r value old new a b before after h =
+    let t : Bool → List ℕ → Reading ℤ = λ fails bytes. read_with f (r fails bytes) in
+    Reads-as r t (Ok value) (Ok (f value)) old new a b before after refl refl (λ fails xs rest e. ap (read_with f) e) (λ xs e. ap (read_with f) e) h
+
+pub With-stops : {A : Type 0} (f : A → ℤ) (r : Bool → List ℕ → Reading A) (why : ReadStop) (old new : RunPorts) (a b : Feeds) (before after : Ports)
+    → Reads r (Err why) old new a b before after → Reads (λ fails bytes. read_with f (r fails bytes)) (Err why) old new a b before after
+With-stops f r why old new a b before after h =
+    let t : Bool → List ℕ → Reading ℤ = λ fails bytes. read_with f (r fails bytes) in
+    Reads-stops r t why old new a b before after (record { faults = λ fails xs fault e. ap (read_with f) e; ends = λ fails xs e. ap (read_with f) e }) h
 
 -- ---- the output
 

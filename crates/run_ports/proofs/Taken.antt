@@ -1,18 +1,20 @@
 -- What is read of the next byte, which is looked at or taken.
-use Rattle.std.proofs.Common.{◌≡◌, ℕ, ℤ, ◌+◌, ◌-◌, ◌*◌, ◌<◌, ◌≤◌, List, [], ◌∷◌, refl, ap, sym, ◌∙◌, subst, arith}
+use Rattle.std.proofs.Common.{◌≡◌, ℕ, ℤ, pos, ◌+◌, ◌-◌, ◌*◌, ◌<◌, ◌≤◌, List, [], ◌∷◌, refl, ap, sym, ◌∙◌, subst, arith}
 use Rattle.std.proofs.Common.{Bool, true, false, Result, Ok, Err, ◌⊎◌, inl, inr}
 use Rattle.std.specs.Prelude.{if◌then◌else◌, nat_eq, nat_le}
 use Rattle.std.proofs.lemmas.Bool.Decides.{nat_tests}
+use mir.Val.{bool_byte}
 use Rattle.text_input.specs.declared.InputFault.{InputFault}
 use Rattle.text_input.specs.declared.InputFault.TheVariants.{NotACharacter, NotANumber}
 use Rattle.text_input.specs.Input.{Reading, Reads as ReadsIt, Fails, Ends, digits, is_blank, is_digit, number, read_character, read_integer, read_line}
-use Rattle.text_input.specs.Input.{signed_at, unsigned_at}
+use Rattle.text_input.specs.Input.{read_eoln, signed_at, unsigned_at}
 use Rattle.run_ports.specs.declared.fault.ReadStop.{ReadStop}
 use Rattle.run_ports.specs.declared.ports.RunPorts.{RunPorts}
 use Rattle.run_ports.specs.Feeding.{Feeds}
 use Rattle.run_ports.specs.Ports.{Ports}
 use Rattle.run_ports.specs.Reads.{Answers, Reads, lost_in, read_failures_in}
 use Rattle.run_ports.specs.Steps.{Takes, byte_taken, looked_at, sign_taken}
+use Rattle.run_ports.specs.Wanted.{one_if, read_with}
 use Rattle.run_ports.proofs.Reading.{Begins, Reads-as, Reads-stops, Reads-takes, Reads-then}
 
 -- ---- what a reading has
@@ -192,6 +194,14 @@ character_above byte xs above =
     let test' : nat_le byte 127 ≡ false = grind (arith, nat_tests) in
     ap (λ b. if b then ReadsIt 32 xs else if nat_le byte 127 then ReadsIt byte xs else Fails NotACharacter) test
     ∙ ap (λ b. if b then ReadsIt byte xs else Fails NotACharacter) test'
+
+-- whether one ends, as a number
+line_end_is : (b : Bool) → one_if b ≡ pos (bool_byte b)
+line_end_is true = refl
+line_end_is false = refl
+
+pub line_end_told : (byte : ℕ) (n : ℤ) (xs : List ℕ) → n ≡ pos (bool_byte (nat_eq byte 10)) → read_with one_if (read_eoln (byte ∷ xs)) ≡ ReadsIt n (byte ∷ xs)
+line_end_told byte n xs e = ap (λ m. ReadsIt m (byte ∷ xs)) (line_end_is (nat_eq byte 10) ∙ sym e)
 
 pub line_ends : (byte : ℕ) (xs : List ℕ) → byte ≡ 10 → read_line (byte ∷ xs) ≡ ReadsIt tt xs
 line_ends byte xs e = ap (λ b. read_line (b ∷ xs)) e

@@ -3,3 +3,4 @@ pub mod Output
 pub mod Ports
 pub mod Reads
 pub mod Steps
+pub mod Wanted

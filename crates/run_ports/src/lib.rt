@@ -5,3 +5,4 @@ pub mod fault;
 mod input;
 mod output;
 pub mod ports;
+pub mod wanted;

@@ -1,15 +1,17 @@
 ghost use Rattle.std.specs.Prelude.{◌≡◌, ℕ, ◌+◌, ◌^◌, ◌-◌, ◌<◌, ◌≤◌, List, [], ◌∷◌, Bool, false, replicate, min, IfOk};
-ghost use Rattle.std.specs.Prelude.{IfSome};
-ghost use Rattle.text_input.specs.Input.{digits, number, read_character, read_eoln, read_integer, read_line};
+ghost use Rattle.std.specs.Prelude.{IfSome, pos};
+ghost use Rattle.text_input.specs.Input.{character, digits, number, read_integer, read_line};
 ghost use Rattle.run_ports.specs.Feeding.{Source, feeds, left, readable};
 ghost use Rattle.run_ports.specs.Output.{held_by, ports};
 ghost use Rattle.run_ports.specs.Ports.{AppendsOrLoses, Offers, PassesOrLoses, piece_of, write_failures_in};
-ghost use Rattle.run_ports.specs.Reads.{Answers, Reads, lost_in, read_end, read_failures_in};
+ghost use Rattle.run_ports.specs.Reads.{Answers, Reads, lost_in, read_failures_in};
 ghost use Rattle.run_ports.specs.Steps.{byte_taken, looked_at, may_take, peeked, sign_taken};
+ghost use Rattle.run_ports.specs.Wanted.{read_wanted, read_with};
 
 use crate::fault::{ReadStop, WriteFailed};
 use crate::input::Input;
 use crate::output::Output;
+use crate::wanted::Wanted;
 use byte_ports::bytes::{Feed, Sink};
 use std::alloc::{AllocError, Global};
 use text_input::InputFault;
@@ -90,8 +92,37 @@ impl RunPorts {
         self.output.write_out(writer)
     }
 
+    /// Reads what is wanted, as a number.
+    pub fn read<R: Feed, W: Sink>(
+        &mut self,
+        wanted: Wanted,
+        reader: &mut R,
+        writer: &mut W,
+    ) -> Result<i32, ReadStop>
+        requires reader_counts { R.failures reader.old < 2 ^ 64 - 1 }
+        requires writer_counts { W.failures writer.old < 2 ^ 64 - 1 }
+        ensures reads { Reads (read_wanted wanted) result self.old self.new
+            (feeds (R.remaining reader.old) (R.asked reader.old) (R.failures reader.old))
+            (feeds (R.remaining reader.new) (R.asked reader.new) (R.failures reader.new))
+            (ports (W.contents writer.old) (W.offered writer.old) self.old.output)
+            (ports (W.contents writer.new) (W.offered writer.new) self.new.output) }
+        ensures read_failures { R.failures reader.new ≡ R.failures reader.old + read_failures_in result }
+        ensures write_failures { W.failures writer.new ≡ W.failures writer.old + lost_in result }
+    {
+        match wanted {
+            Wanted::Integer => self.read_integer(reader, writer),
+            Wanted::Character => character_of(self.next_byte(reader, writer)?),
+            Wanted::LineEnd => Ok(i32::from(self.look(reader, writer)? == b'\n')),
+            Wanted::NextLine => {
+                self.pass_line(reader, writer)?;
+                Ok(0)
+            }
+            Wanted::End => Ok(i32::from(self.peek(reader, writer)?.is_none())),
+        }
+    }
+
     /// Reads an integer behind blanks and line ends (ISO 7185:1990, 6.9.1); the byte behind its digits is looked at.
-    pub fn read_integer<R: Feed, W: Sink>(
+    fn read_integer<R: Feed, W: Sink>(
         &mut self,
         reader: &mut R,
         writer: &mut W,
@@ -113,31 +144,8 @@ impl RunPorts {
         self.digits(is_negative, reader, writer)
     }
 
-    /// Reads a character: a blank at the end of a line, which is passed (ISO 7185:1990, 6.9.1).
-    pub fn read_char<R: Feed, W: Sink>(
-        &mut self,
-        reader: &mut R,
-        writer: &mut W,
-    ) -> Result<u8, ReadStop>
-        requires reader_counts { R.failures reader.old < 2 ^ 64 - 1 }
-        requires writer_counts { W.failures writer.old < 2 ^ 64 - 1 }
-        ensures reads { Reads (λ fails. read_character) result self.old self.new
-            (feeds (R.remaining reader.old) (R.asked reader.old) (R.failures reader.old))
-            (feeds (R.remaining reader.new) (R.asked reader.new) (R.failures reader.new))
-            (ports (W.contents writer.old) (W.offered writer.old) self.old.output)
-            (ports (W.contents writer.new) (W.offered writer.new) self.new.output) }
-        ensures read_failures { R.failures reader.new ≡ R.failures reader.old + read_failures_in result }
-        ensures write_failures { W.failures writer.new ≡ W.failures writer.old + lost_in result }
-    {
-        match self.next_byte(reader, writer)? {
-            b'\n' => Ok(b' '),
-            byte @ 0..=127 => Ok(byte),
-            _ => Err(ReadStop::Input(InputFault::NotACharacter)),
-        }
-    }
-
     /// Passes the next line end, with what stands before it (ISO 7185:1990, 6.9.2).
-    pub fn pass_line<R: Feed, W: Sink>(
+    fn pass_line<R: Feed, W: Sink>(
         &mut self,
         reader: &mut R,
         writer: &mut W,
@@ -157,44 +165,6 @@ impl RunPorts {
                 return Ok(());
             }
         }
-    }
-
-    /// Whether a line ends here (ISO 7185:1990, 6.6.6.5).
-    pub fn at_line_end<R: Feed, W: Sink>(
-        &mut self,
-        reader: &mut R,
-        writer: &mut W,
-    ) -> Result<bool, ReadStop>
-        requires reader_counts { R.failures reader.old < 2 ^ 64 - 1 }
-        requires writer_counts { W.failures writer.old < 2 ^ 64 - 1 }
-        ensures reads { Reads (λ fails. read_eoln) result self.old self.new
-            (feeds (R.remaining reader.old) (R.asked reader.old) (R.failures reader.old))
-            (feeds (R.remaining reader.new) (R.asked reader.new) (R.failures reader.new))
-            (ports (W.contents writer.old) (W.offered writer.old) self.old.output)
-            (ports (W.contents writer.new) (W.offered writer.new) self.new.output) }
-        ensures read_failures { R.failures reader.new ≡ R.failures reader.old + read_failures_in result }
-        ensures write_failures { W.failures writer.new ≡ W.failures writer.old + lost_in result }
-    {
-        Ok(self.look(reader, writer)? == b'\n')
-    }
-
-    /// Whether nothing is left (ISO 7185:1990, 6.6.6.5).
-    pub fn at_end<R: Feed, W: Sink>(
-        &mut self,
-        reader: &mut R,
-        writer: &mut W,
-    ) -> Result<bool, ReadStop>
-        requires reader_counts { R.failures reader.old < 2 ^ 64 - 1 }
-        requires writer_counts { W.failures writer.old < 2 ^ 64 - 1 }
-        ensures reads { Reads read_end result self.old self.new
-            (feeds (R.remaining reader.old) (R.asked reader.old) (R.failures reader.old))
-            (feeds (R.remaining reader.new) (R.asked reader.new) (R.failures reader.new))
-            (ports (W.contents writer.old) (W.offered writer.old) self.old.output)
-            (ports (W.contents writer.new) (W.offered writer.new) self.new.output) }
-        ensures read_failures { R.failures reader.new ≡ R.failures reader.old + read_failures_in result }
-        ensures write_failures { W.failures writer.new ≡ W.failures writer.old + lost_in result }
-    {
-        Ok(self.peek(reader, writer)?.is_none())
     }
 
     /// Passes blanks, line ends and a sign, and answers whether it is a minus.
@@ -336,5 +306,18 @@ fn number_of(is_negative: bool, magnitude: u64) -> Result<i32, ReadStop>
         Ok(value) if is_negative => Ok(-value),
         Ok(value) => Ok(value),
         Err(_) => Err(ReadStop::Input(InputFault::NumberTooLarge)),
+    }
+}
+
+/// The number of the character that a byte is: of a blank at the end of a line.
+fn character_of(byte: u8) -> Result<i32, ReadStop>
+    ensures value { (fails : Bool) (rest : List ℕ) →
+        Answers result (read_with pos (character byte rest)) fails rest }
+    ensures no_failure { (read_failures_in result ≡ 0) × (lost_in result ≡ 0) }
+{
+    match byte {
+        b'\n' => Ok(i32::from(b' ')),
+        0..=127 => Ok(i32::from(byte)),
+        _ => Err(ReadStop::Input(InputFault::NotACharacter)),
     }
 }

@@ -1,6 +1,6 @@
 ghost use Rattle.std.specs.Prelude.{◌≡◌};
 ghost use Rattle.stack_machine.specs.declared.halt.Halt.TheVariants.{Fault};
-ghost use Rattle.stack_machine.specs.Halts.{stop_at, unread, untold};
+ghost use Rattle.stack_machine.specs.Halts.{stop_at, unread};
 ghost use Rattle.stack_machine.specs.Machine.{tables_of};
 
 use crate::stop::{MachineFault, Stop};
@@ -31,16 +31,6 @@ impl Halt {
         match stop {
             ReadStop::Input(fault) => Halt::Input(point, fault),
             ReadStop::ReadFailed => Halt::ReadFailed,
-            ReadStop::WriteFailed => Halt::WriteFailed,
-        }
-    }
-
-    /// What stops an instruction that asks whether the input is at its end, which is no fault of the input.
-    pub fn untold(stop: ReadStop) -> Halt
-        ensures { result ≡ untold stop }
-    {
-        match stop {
-            ReadStop::Input(_) | ReadStop::ReadFailed => Halt::ReadFailed,
             ReadStop::WriteFailed => Halt::WriteFailed,
         }
     }
