@@ -394,7 +394,52 @@ def passed(m):
     return m.program("read(low, top);", test)
 
 
+def side_by_side(m):
+    """Arrays are filled by loops over one variable, each from a place of its own, and read behind all of them."""
+    count, room = m.randint(5, 30), m.randint(6, 20)
+    high, names = m.number(room), [f"a{number}" for number in range(count)]
+    m.declare({"table": f"array [0..{high}] of integer"}, i="integer", x="integer", **dict.fromkeys(names, "table"))
+    firsts = {name: m.randint(0, 5) for name in names}
+
+    def loops(form):
+        return [m.loop("i", firsts[name], high, form.format(name), forms="for", down=True) for name in names]
+
+    return m.program("read(x);", *loops(m.pick("{}[i] := x;", "{}[i] := i;")), *loops("write({}[i]: 1);"))
+
+
+def fields(m):
+    """An array in a record is filled and shown by routines that get it alone."""
+    high = m.number(m.randint(3, 40))
+    m.declare({"table": f"array [1..{high}] of integer", "list": "record id: integer; data: table; size: integer end",
+               "pair": "record one, other: list end"}, p="pair", n="integer")
+    own = ["var a: table", "last: integer"]
+    m.routine("fill", "", m.loop("i", 1, "last", m.pick("a[i] := i;", "read(a[i]);")), own=own, i="integer")
+    m.routine("show", "", m.loop("j", 1, "last", "write(a[j]: 1);", down=True), own=own, j="integer")
+    name = m.pick("one", "other")
+    fill, show = (m.pick(f"{it}(p.{name}.data, n);", f"with p.{name} do {it}(data, n);") for it in ("fill", "show"))
+    return m.program("read(n);", f"if (n >= 1) and (n <= {high}) then\n{compound(fill, show)};")
+
+
+def neighbours(m):
+    """Elements that stand some places apart are read together, as far as there are two, by a routine that gets one."""
+    gap, high = m.randint(1, 5), m.number(m.randint(6, 40))
+    m.declare({"table": f"array [1..{high}] of 0..99"}, a="table", n="integer", i="integer")
+    fill = m.part("fill", "var a, n", m.loop("e", 1, "n", "a[e] := e;"), e="integer")
+    m.routine("tell", "var a, n", f"writeln(a[k] + a[k + {gap}]: 1);", own=["k: integer"])
+    tell = m.loop("i", 1, f"n - {gap}", f"{m.call('tell', 'i')};")
+    return m.program("read(n);", f"if (n >= 1) and (n <= {high}) then\n{compound(fill, tell)};")
+
+
+def remainders(m):
+    """A number goes round below another one, by a routine; its type has no other end."""
+    most, by = m.number(m.randint(2, 5000)), m.number(m.randint(1, 99))
+    m.declare({"natural": "0..maxint"}, x="natural", size="natural", t="integer", k="integer")
+    step = m.part("step", "var x, size", f"x := (x + {by}) mod size;")
+    turn = m.loop("k", 1, m.randint(2, 99), step, "write(x: 1);", forms=ALL)
+    return m.program("read(t);", f"if (t >= 1) and (t <= {most}) then\n{compound('size := t; x := 0;', turn)};")
+
+
 IDIOMS = (
     counted_list, stack, read_sort_print, divisor, histogram, halves, matrix, text, ring, sums, lengths, constants,
-    passed,
+    passed, side_by_side, fields, neighbours, remainders,
 )

@@ -27,7 +27,7 @@ DO_NOT = (
     *("cert_checker.statement_step", "cert_checker.Valid", "cert_checker.StatesHold", "checker_state.joined_states"),
     *("report.IsStripped", "report.IsRefusal", "code_scheme.program_code", "certificate.Certificate"),
 )
-SILENT = re.compile("checker_|analyser|plain_|certificate|domain|interpreter|prepare|step_finder|check_remover")
+SILENT = re.compile("checker_|analyser|plain_|certificate|domain|interpreter|prepare|_finder|check_remover")
 CRATES = "# All.\nlow:\nmeaning: low\nreport: low meaning\n"
 COMPILE = """ghost use Rattle.std.specs.Prelude.{IfOk, ℕ};
 ghost use Rattle.meaning.specs.Top.{Top as Whole, IsOf};

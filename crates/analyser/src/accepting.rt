@@ -6,25 +6,26 @@ ghost use Rattle.cert_checker.specs.Promise.{IsAccepted};
 ghost use Rattle.typed_tree.specs.WellFormed.{IsWellFormed};
 
 use crate::outcome::drop_vacant;
+use analyser_claims::{Event, events_of, number_of};
 use cert_checker::check;
 use cert_checker::laws::plain_is_accepted;
-use certificate::fault::ReadFault;
-use certificate::{Certificate, Fact, read, write};
-use checker_expressions::fault::CheckFault;
-use domain::facts::Spans;
+use certificate::{Certificate, Fact, ReadFault, read, write};
+use checker_expressions::CheckFault;
+use domain::Spans;
+use place::Place;
 use plain_certificate::widest;
 use std::alloc::{AllocError, Global};
-use typed_tree::tree::Tree;
+use typed_tree::Tree;
 
-// What is let go before a certificate is tried.
-#[derive(Clone, Copy)]
-enum Loss {
-    Nothing,
-    Orders,
-    Growths,
-    Stretches,
-    Exits,
-    Facts,
+// How often facts are let go, those of one kind at one place at a time.
+const TRIES: u32 = 32;
+
+// Where facts stand: at a loop, or where a block begins or ends.
+#[derive(Clone, Copy, PartialEq, Eq)]
+enum Spot {
+    Loop(u32),
+    Entry(u32),
+    Exit(u32),
 }
 
 /// A certificate, or what is left of it, as far as the checker accepts it; else that without facts which lists all. It
@@ -43,91 +44,100 @@ pub fn accepted(
 {
     plain_is_accepted();
     let mut left = certificate;
-    for loss in [
-        Loss::Nothing,
-        Loss::Orders,
-        Loss::Growths,
-        Loss::Stretches,
-        Loss::Exits,
-        Loss::Facts,
-    ] {
-        lose(&mut left, loss);
-        if let Some(settled) = settled(alloc, tree, &left)? {
-            return Ok(settled);
+    for _ in 0..TRIES {
+        drop_vacant(&mut left);
+        match settled(alloc, tree, &left)? {
+            Ok(settled) => return Ok(settled),
+            Err(spot) => lose(&mut left, spot),
         }
         *refusals = refusals.saturating_add(1);
     }
     widest(alloc, tree)
 }
 
-// A certificate as it is read from its spelling, if it can be and the checker accepts it.
+// A certificate as it is read from its spelling, if it can be and the checker accepts it; else where facts stand that
+// aren't given, if that is told.
 fn settled(
     alloc: Global,
     tree: &Tree,
     certificate: &Certificate,
-) -> Result<Option<Certificate>, AllocError>
-    ensures { IfOk result (λ settled. IfSome settled (λ certificate. IsAccepted tree.now certificate
+) -> Result<Result<Certificate, Option<Spot>>, AllocError>
+    ensures { IfOk result (λ settled. IfOk settled (λ certificate. IsAccepted tree.now certificate
         × (are_in_order certificate.version (contents certificate) ≡ true))) }
 {
     let text = write(alloc, certificate)?;
     let certificate = match read(alloc, &text) {
         Ok(certificate) => certificate,
         Err(ReadFault::Memory(refused)) => return Err(refused.into()),
-        Err(_) => return Ok(None),
+        Err(_) => return Ok(Err(None)),
     };
     match check(alloc, tree, &certificate) {
-        Ok(_) => Ok(Some(certificate)),
+        Ok(_) => Ok(Ok(certificate)),
         Err(CheckFault::Memory(refused)) => Err(refused.into()),
-        Err(_) => Ok(None),
+        Err(CheckFault::Broken { place, .. }) => Ok(Err(spot_at(alloc, tree, place)?)),
+        Err(_) => Ok(Err(None)),
     }
 }
 
-// Lets facts go, and what says nothing then.
-fn lose(certificate: &mut Certificate, loss: Loss) {
+// The loop, the routine that is called or the block that ends at a place, if one does.
+fn spot_at(alloc: Global, tree: &Tree, place: Place) -> Result<Option<Spot>, AllocError> {
+    for (number, block) in tree.blocks.iter().enumerate() {
+        if is_same(block.end, place) {
+            return Ok(Some(Spot::Exit(number_of(number))));
+        }
+        for event in &events_of(alloc, &block.body)? {
+            match event {
+                Event::Enter {
+                    number,
+                    place: at,
+                    ..
+                } if is_same(*at, place) => {
+                    return Ok(Some(Spot::Loop(*number)));
+                }
+                Event::Call { call, .. } if is_same(call.name, place) => {
+                    return Ok(Some(Spot::Entry(call.block)));
+                }
+                _ => {}
+            }
+        }
+    }
+    Ok(None)
+}
+
+fn is_same(place: Place, other: Place) -> bool {
+    place.line == other.line && place.column == other.column
+}
+
+// Lets the facts of the weakest kind go that stand there; of each place, where none is told.
+fn lose(certificate: &mut Certificate, told: Option<Spot>) {
     for section in certificate.sections.iter_mut() {
-        keep_of(&mut section.entry, loss);
-        keep_of(&mut section.exit, loss);
-        if let Loss::Exits = loss {
-            section.exit.clear();
-        }
+        thin(&mut section.entry, told, Spot::Entry(section.block));
+        thin(&mut section.exit, told, Spot::Exit(section.block));
         for claims in section.loops.iter_mut() {
-            keep_of(&mut claims.facts, loss);
+            thin(&mut claims.facts, told, Spot::Loop(claims.number));
         }
     }
-    drop_vacant(certificate);
 }
 
-// Keeps of facts those that aren't lost.
-fn keep_of(facts: &mut Vec<Fact>, loss: Loss) {
-    match loss {
-        Loss::Orders => facts.retain(is_no_order),
-        Loss::Growths => facts.retain(is_no_growth),
-        Loss::Stretches => facts.retain(is_no_stretch),
-        Loss::Nothing | Loss::Exits => {}
-        Loss::Facts => facts.clear(),
+// Lets the facts of the weakest kind go, if theirs is the place that is told.
+fn thin(facts: &mut Vec<Fact>, told: Option<Spot>, spot: Spot) {
+    if told.unwrap_or(spot) == spot {
+        if let Some(weakest) = facts.iter().map(strength).min() {
+            facts.retain(|fact| strength(fact) > weakest);
+        }
     }
 }
 
-fn is_no_order(fact: &Fact) -> bool {
+// Kinds of facts, by how much rests on them.
+fn strength(fact: &Fact) -> u8 {
     match fact {
-        Fact::Order { .. } => false,
-        _ => true,
-    }
-}
-
-fn is_no_growth(fact: &Fact) -> bool {
-    match fact {
-        Fact::Grows { .. } => false,
-        _ => true,
-    }
-}
-
-fn is_no_stretch(fact: &Fact) -> bool {
-    match fact {
+        Fact::Order { .. } => 0,
+        Fact::Grows { .. } => 1,
         Fact::Defined {
             spans: Spans::One(_) | Spans::Two(_, _),
             ..
-        } => false,
-        _ => true,
+        } => 2,
+        Fact::Range { .. } => 3,
+        Fact::Defined { .. } => 4,
     }
 }

@@ -1,35 +1,13 @@
-use analyser_tables::{Coming, Ladders, Table};
+use analyser_plan::{Course, Proposed};
+use analyser_tables::{Coming, Pace, Table};
 use cert_checker::walk::Walk;
 use certificate::Fact;
-use checker_calls::actuals::Bindings;
-use checker_loops::sections::Facts;
-use checker_rows::Rows;
+use checker_calls::Bindings;
+use checker_loops::{BlockSection, Facts};
 use checker_trail::State;
 use memory::Refused;
 use std::alloc::{AllocError, Global};
 use std::mem;
-
-/// What is proposed of a program, beside the certificate without facts that the walk goes by.
-#[derive(Drop)]
-pub(crate) struct Proposed {
-    /// What may hold where each block begins and ends, by its number.
-    pub(crate) entries: Vec<Vec<Fact>>,
-    pub(crate) exits: Vec<Vec<Fact>>,
-    /// What may hold at the head of each loop, by its number.
-    pub(crate) loops: Vec<Vec<Fact>>,
-}
-
-/// By what the walk goes that doesn't move.
-#[derive(Drop)]
-pub(crate) struct Course {
-    /// Where the ends of ranges stop that move.
-    pub(crate) ladders: Ladders,
-    /// By block number: the blocks that call it, and whether calls lead from it back to it.
-    pub(crate) callers: Vec<Vec<u32>>,
-    pub(crate) is_recursive: Vec<bool>,
-    /// The variables that each block declares, by its number.
-    pub(crate) declared: Vec<Vec<u32>>,
-}
 
 /// A walk over a program by what is known so far where facts stand, which moves with what comes there.
 #[derive(Drop)]
@@ -37,6 +15,8 @@ pub(crate) struct Analysis<'a> {
     /// The checker's walk by a certificate without facts. Those of blocks are kept in its sections.
     pub(crate) walk: Walk<'a>,
     pub(crate) course: &'a Course,
+    /// The variables that each block declares, by its number.
+    pub(crate) declared: &'a [Vec<u32>],
     pub(crate) entries: Vec<Table>,
     pub(crate) exits: Vec<Table>,
     pub(crate) loops: Vec<Table>,
@@ -58,10 +38,16 @@ pub(crate) struct Analysis<'a> {
 
 impl<'a> Analysis<'a> {
     /// Before the first round, where no facts stand.
-    pub(crate) fn new(alloc: Global, walk: Walk<'a>, course: &'a Course) -> Analysis<'a> {
+    pub(crate) fn new(
+        alloc: Global,
+        walk: Walk<'a>,
+        course: &'a Course,
+        declared: &'a [Vec<u32>],
+    ) -> Analysis<'a> {
         Analysis {
             walk,
             course,
+            declared,
             entries: Vec::new(alloc),
             exits: Vec::new(alloc),
             loops: Vec::new(alloc),
@@ -75,35 +61,25 @@ impl<'a> Analysis<'a> {
         }
     }
 
-    /// Makes room for facts.
+    /// Facts stand from here on where blocks begin and end, and at the heads of loops.
     ///
     /// # Errors
     /// No memory.
-    pub(crate) fn make_room(&mut self, alloc: Global, facts: &Proposed) -> Result<(), AllocError> {
-        let blocks = self.walk.flow.grounds.sections.len();
+    pub(crate) fn keep(&mut self, alloc: Global, facts: Proposed) -> Result<(), AllocError> {
+        let sections = &mut self.walk.flow.grounds.sections;
+        self.due = vec![in alloc; false; sections.len()]?;
+        self.walked = vec![in alloc; false; sections.len()]?;
         self.entries = tables(alloc, &facts.entries)?;
         self.exits = tables(alloc, &facts.exits)?;
         self.loops = tables(alloc, &facts.loops)?;
-        self.due = vec![in alloc; false; blocks]?;
-        self.walked = vec![in alloc; false; blocks]?;
+        self.heads = facts.loops;
+        for (section, facts) in sections.iter_mut().zip(facts.entries.into_iter()) {
+            section.start = Facts::Kept(facts);
+        }
+        for (section, facts) in sections.iter_mut().zip(facts.exits.into_iter()) {
+            section.end = Facts::Kept(facts);
+        }
         Ok(())
-    }
-
-    /// Facts stand from here on where blocks begin and end, and at the heads of loops.
-    pub(crate) fn keep(&mut self, facts: Proposed) {
-        let Proposed {
-            mut entries,
-            mut exits,
-            loops,
-        } = facts;
-        let sections = &mut self.walk.flow.grounds.sections;
-        for (section, row) in sections.iter_mut().zip(entries.iter_mut()) {
-            exchange(&mut section.start, row);
-        }
-        for (section, row) in sections.iter_mut().zip(exits.iter_mut()) {
-            exchange(&mut section.end, row);
-        }
-        self.heads = loops;
     }
 
     /// The facts that stand, where nothing moves any longer.
@@ -153,80 +129,73 @@ impl<'a> Analysis<'a> {
     /// What is known where the walk is comes to the head of a loop, perhaps from the end of a turn. Whether that moved
     /// what is known there.
     pub(crate) fn arrive_at_loop(&mut self, number: u32, from_turn: bool) -> bool {
-        let state = &self.walk.flow.state;
+        let pace = self.pace(from_turn);
         let (Some(table), Some(facts)) = (
             self.loops.get_mut(number as usize),
             self.heads.get_mut(number as usize),
         ) else {
             return false;
         };
-        let how = How {
-            ladders: &self.course.ladders,
-            rows: state.table(),
-            narrows: self.narrows,
-            counts: from_turn,
-        };
-        !state.is_dead() && how.come(table, facts, &Coming::here(state))
+        table.arrive(facts, &Coming::here(&self.walk.flow.state), pace)
     }
 
     /// It comes to the end of a block.
     pub(crate) fn arrive_at_exit(&mut self, number: usize) {
-        let alloc = self.walk.flow.state.alloc();
-        let Some(section) = self.walk.flow.grounds.sections.get_mut(number) else {
-            return;
+        let counts = is_told(&self.course.is_recursive, number);
+        let pace = self.pace(counts);
+        let mut sections = self.sections_taken();
+        let has_moved = match (self.exits.get_mut(number), sections.get_mut(number)) {
+            (Some(table), Some(section)) => {
+                let coming = Coming::here(&self.walk.flow.state);
+                arrived(table, &mut section.end, &coming, pace)
+            }
+            _ => false,
         };
-        let mut facts = taken(alloc, &mut section.end);
-        if self.come_to_exit(number, &mut facts) {
+        self.walk.flow.grounds.sections = sections;
+        if has_moved {
             self.make_callers_due(number);
         }
-        if let Some(section) = self.walk.flow.grounds.sections.get_mut(number) {
-            section.end = Facts::Kept(facts);
-        }
-    }
-
-    // The same, where these facts stand. Whether anything moved.
-    fn come_to_exit(&mut self, number: usize, facts: &mut Vec<Fact>) -> bool {
-        let state = &self.walk.flow.state;
-        let Some(table) = self.exits.get_mut(number) else {
-            return false;
-        };
-        let how = How {
-            ladders: &self.course.ladders,
-            rows: state.table(),
-            narrows: self.narrows,
-            counts: is_told(&self.course.is_recursive, number),
-        };
-        !state.is_dead() && how.come(table, facts, &Coming::here(state))
     }
 
     /// It comes to where a routine begins that is called with these actual parameters.
     pub(crate) fn arrive_at_entry(&mut self, number: usize, bindings: Bindings) {
-        let alloc = self.walk.flow.state.alloc();
-        let Some(section) = self.walk.flow.grounds.sections.get_mut(number) else {
-            return;
+        let pace = self.pace(true);
+        let mut sections = self.sections_taken();
+        let has_moved = match (self.entries.get_mut(number), sections.get_mut(number)) {
+            (Some(table), Some(section)) => {
+                let coming = Coming::called(&self.walk.flow.state, bindings);
+                arrived(table, &mut section.start, &coming, pace)
+            }
+            _ => false,
         };
-        let mut facts = taken(alloc, &mut section.start);
-        if self.come_to_entry(number, bindings, &mut facts) {
+        self.walk.flow.grounds.sections = sections;
+        if has_moved {
             self.make_due(number);
-        }
-        if let Some(section) = self.walk.flow.grounds.sections.get_mut(number) {
-            section.start = Facts::Kept(facts);
         }
     }
 
-    // The same, where these facts stand. Whether anything moved.
-    fn come_to_entry(&mut self, number: usize, bindings: Bindings, facts: &mut Vec<Fact>) -> bool {
-        let state = &self.walk.flow.state;
-        let Some(table) = self.entries.get_mut(number) else {
-            return false;
-        };
-        let how = How {
+    // The sections of the walk, which has none until they are put back.
+    fn sections_taken(&mut self) -> Vec<BlockSection<'a>> {
+        let none = Vec::new(self.walk.flow.state.alloc());
+        mem::replace(&mut self.walk.flow.grounds.sections, none)
+    }
+
+    // How what comes moves what is known.
+    fn pace(&self, counts: bool) -> Pace<'a, 'a> {
+        Pace {
+            rows: self.walk.flow.state.table(),
             ladders: &self.course.ladders,
-            rows: state.table(),
             narrows: self.narrows,
-            counts: true,
-        };
-        !state.is_dead() && how.come(table, facts, &Coming::called(state, bindings))
+            counts,
+        }
+    }
+}
+
+// Something comes to where a block begins or ends. Whether anything moved.
+fn arrived(table: &mut Table, facts: &mut Facts, coming: &Coming, pace: Pace) -> bool {
+    match facts {
+        Facts::Kept(facts) => table.arrive(facts, coming, pace),
+        Facts::Listed(_) => false,
     }
 }
 
@@ -246,26 +215,6 @@ pub(crate) fn is_told(told: &[bool], number: usize) -> bool {
     }
 }
 
-/// How what comes moves what is known.
-#[derive(Clone, Copy)]
-struct How<'h, 'a> {
-    ladders: &'h Ladders,
-    rows: &'h Rows<'a>,
-    narrows: bool,
-    counts: bool,
-}
-
-impl<'h, 'a> How<'h, 'a> {
-    /// Something comes to a place of facts. Whether anything moved.
-    fn come(self, table: &mut Table, facts: &mut Vec<Fact>, coming: &Coming) -> bool {
-        if self.narrows {
-            table.collect(facts, coming, self.counts);
-            return false;
-        }
-        table.arrive(facts, coming, self.rows, self.ladders, self.counts)
-    }
-}
-
 // A table for each row of facts.
 fn tables(alloc: Global, rows: &[Vec<Fact>]) -> Result<Vec<Table>, AllocError> {
     let mut tables = Vec::with_capacity(alloc, rows.len())?;
@@ -273,15 +222,4 @@ fn tables(alloc: Global, rows: &[Vec<Fact>]) -> Result<Vec<Table>, AllocError> {
         tables.push(Table::new(alloc, row.len())?)?;
     }
     Ok(tables)
-}
-
-// Exchanges facts of a block that are kept for others; listed ones go.
-fn exchange(facts: &mut Facts, row: &mut Vec<Fact>) {
-    match facts {
-        Facts::Kept(kept) => mem::swap(kept, row),
-        Facts::Listed(_) => {
-            let alloc = *row.allocator();
-            *facts = Facts::Kept(mem::replace(row, Vec::new(alloc)));
-        }
-    }
 }

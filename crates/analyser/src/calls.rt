@@ -1,15 +1,14 @@
 //! Calls: what is known comes to where the called block begins, which is walked at once where it is due.
 
-use crate::analysis::{Analysis, is_told};
-use crate::tally::Tally;
-use analyser_claims::events::Event;
+use crate::analysis::is_told;
+use crate::{Analysis, Tally};
+use analyser_claims::Event;
 use cert_checker::blocks::begin;
-use checker_calls::actuals::{Actual, Bindings, settle};
+use checker_calls::{Actual, Bindings, settle};
 use checker_trail::{Mark, State};
 use std::alloc::AllocError;
 use std::mem;
-use typed_tree::calls::actuals_hold_call;
-use typed_tree::tree::{Call, FunctionResult, Passed};
+use typed_tree::{Call, FunctionResult, Passed, actuals_hold_call};
 
 /// How many statements may stand in one another where a walk begins from a call: more than a block's may, of which at
 /// most 128 do.
@@ -106,7 +105,7 @@ impl<'a> Analysis<'a> {
         let state = mem::replace(&mut flow.state, spare);
         let block = mem::replace(&mut flow.grounds.block, number);
         let mark = flow.state.mark();
-        begin(flow, number, &self.course.declared);
+        begin(flow, number, self.declared);
         Caller { state, block, mark }
     }
 

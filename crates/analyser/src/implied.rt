@@ -1,9 +1,9 @@
 //! Facts that others say as well.
 
 use certificate::Fact;
-use checker_loops::claims::rows_named;
+use checker_loops::rows_named;
 use checker_rows::Rows;
-use domain::facts::{Bound, Path, Span, Spans, Step};
+use domain::{Bound, Path, Span, Spans, Step};
 
 // How far a fact may stand from one that says it, in the order of facts.
 const NEAR: usize = 64;
@@ -23,13 +23,7 @@ fn is_implied(rows: &Rows, facts: &[Fact], place: usize) -> bool {
     };
     let first = place.saturating_sub(NEAR);
     let last = place.saturating_add(NEAR);
-    let near = facts.iter().enumerate().take(last).skip(first);
-    for (other_place, other) in near {
-        if other_place != place && says(rows, other, fact) {
-            return true;
-        }
-    }
-    false
+    (first..last).any(|at| at != place && facts.get(at).is_some_and(|one| says(rows, one, fact)))
 }
 
 // Whether a fact says another one, which isn't the same.

@@ -18,19 +18,19 @@ mod tally;
 mod ways;
 
 use crate::accepting::accepted;
-use crate::analysis::{Analysis, Course, Proposed};
+use crate::analysis::Analysis;
 use crate::outcome::filled;
 use crate::tally::Tally;
-use analyser_plan::Plan;
+use analyser_plan::{Course, Plan, Proposed};
 use cert_checker::program::grounds;
 use cert_checker::walk::Walk;
 use certificate::Certificate;
+use checker_loops::all_declared;
 use checker_loops::loops::{all_claims, all_loop_aliases};
-use checker_loops::starts::all_declared;
 use checker_rows::Rows;
 use checker_trail::State;
 use std::alloc::{AllocError, Global};
-use typed_tree::tree::Tree;
+use typed_tree::Tree;
 
 /// A certificate that was found, and what that took.
 #[derive(Drop)]
@@ -67,29 +67,9 @@ pub fn find(alloc: Global, tree: &Tree) -> Result<Found, AllocError>
     let rows = Rows::of(alloc, tree)?;
     let Plan {
         frame,
-        entries,
-        exits,
-        loops,
-        ladders,
-        callers,
-        is_recursive,
+        proposed,
+        course,
     } = Plan::of(alloc, &rows)?;
-    // The checker takes no program of more variables than have numbers, whatever is found of it.
-    let declared = match all_declared(alloc, tree)? {
-        Some(declared) => declared,
-        None => Vec::new(alloc),
-    };
-    let course = Course {
-        ladders,
-        callers,
-        is_recursive,
-        declared,
-    };
-    let proposed = Proposed {
-        entries,
-        exits,
-        loops,
-    };
     let mut visits = Tally { entries: 0 };
     let given = given_facts(alloc, &rows, &frame, &course, proposed, &mut visits);
     let mut refusals = 0;
@@ -114,11 +94,15 @@ fn given_facts(
     let grounds = grounds(alloc, tree, frame)?;
     let claims = all_claims(alloc, tree, frame)?;
     let aliases = all_loop_aliases(alloc, tree, &grounds.pairs, &claims)?;
+    // The checker takes no program of more variables than have numbers, whatever is found of it.
+    let declared = match all_declared(alloc, tree)? {
+        Some(declared) => declared,
+        None => Vec::new(alloc),
+    };
     let state = State::of_types(alloc, grounds.version, rows);
     let walk = Walk::new(state, grounds, &claims, &aliases);
-    let mut analysis = Analysis::new(alloc, walk, course);
-    analysis.make_room(alloc, &proposed)?;
-    analysis.keep(proposed);
+    let mut analysis = Analysis::new(alloc, walk, course, &declared);
+    analysis.keep(alloc, proposed)?;
     analysis.run(visits);
     match analysis.refusal() {
         Some(refused) => Err(refused.into()),

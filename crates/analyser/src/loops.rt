@@ -1,40 +1,45 @@
-use crate::analysis::Analysis;
-use crate::tally::Tally;
-use checker_expressions::count::Count;
-use checker_loops::claims::claim_facts;
-use checker_loops::growths::Turns;
-use checker_loops::rounds::Round;
+use crate::{Analysis, Tally};
+use checker_expressions::Count;
+use checker_loops::{Round, Turns, claim_facts};
 use checker_trail::Mark;
 use checker_ways::ways::Way;
-use typed_tree::tree::{ForHead, LoopHead, Stmt};
+use typed_tree::{ForHead, LoopHead, Stmt};
 
 // How often a loop is walked again at once, since a turn moved what is known at its head.
 const REPEATS: u32 = 16;
 
 // Loops: what is known comes to their heads from outside and from the ends of turns.
 impl<'a> Analysis<'a> {
-    /// A while.
+    /// The turns of a loop, which has a way if it is a for, and the way out.
     #[cycle(statement)]
-    pub(crate) fn while_loop(
-        &mut self,
-        head: &LoopHead,
-        body: &Stmt,
-        left: u32,
-        visits: &mut Tally,
-    ) {
+    pub(crate) fn turns(&mut self, one: &Stmt, way: &Option<Way>, left: u32, visits: &mut Tally) {
         for _ in 0..REPEATS {
             let mark = self.mark();
-            if !self.while_turn(head, body, left, visits) {
+            if !self.turn(one, way, left, visits) {
                 return;
             }
             self.go_back(mark);
         }
-        if self.while_turn(head, body, left, visits) {
-            self.make_own_due();
+        if self.turn(one, way, left, visits) {
+            self.make_due(self.walk.flow.grounds.block as usize);
         }
     }
 
-    // One turn of it, and the way out. Whether the turn moved what is known at its head.
+    // One turn, and the way out. Whether the turn moved what is known at the head.
+    #[cycle(statement)]
+    fn turn(&mut self, one: &Stmt, way: &Option<Way>, left: u32, visits: &mut Tally) -> bool {
+        match one {
+            Stmt::While { head, body } => self.while_turn(head, body, left, visits),
+            Stmt::Repeat { head, statements } => self.repeat_turn(head, statements, left, visits),
+            Stmt::For { head, body } => match way {
+                None => false,
+                Some(way) => self.for_turn(head, body, way, left, visits),
+            },
+            _ => false,
+        }
+    }
+
+    // Those of a while.
     #[cycle(statement)]
     fn while_turn(&mut self, head: &LoopHead, body: &Stmt, left: u32, visits: &mut Tally) -> bool {
         visits.tick(head.number);
@@ -48,28 +53,7 @@ impl<'a> Analysis<'a> {
         moved
     }
 
-    /// A repeat.
-    #[cycle(statement)]
-    pub(crate) fn repeat_loop(
-        &mut self,
-        head: &LoopHead,
-        statements: &[Stmt],
-        left: u32,
-        visits: &mut Tally,
-    ) {
-        for _ in 0..REPEATS {
-            let mark = self.mark();
-            if !self.repeat_turn(head, statements, left, visits) {
-                return;
-            }
-            self.go_back(mark);
-        }
-        if self.repeat_turn(head, statements, left, visits) {
-            self.make_own_due();
-        }
-    }
-
-    // One turn of it, and the way out. Whether the turn moved what is known at its head.
+    // Those of a repeat.
     #[cycle(statement)]
     fn repeat_turn(
         &mut self,
@@ -91,13 +75,13 @@ impl<'a> Analysis<'a> {
 
     /// A for.
     #[cycle(statement)]
-    pub(crate) fn for_loop(&mut self, head: &ForHead, body: &Stmt, left: u32, visits: &mut Tally) {
+    pub(crate) fn for_loop(&mut self, one: &Stmt, head: &ForHead, left: u32, visits: &mut Tally) {
         let from = self.value(&head.first.value, left, visits);
         let to = self.value(&head.last.value, left, visits);
         let way = Way::of(self.state().table(), head, from, to);
         let mark = self.mark();
         let steady = self.begin_turns(head.loop_number, &way);
-        self.for_turns(head, body, &steady, left, visits);
+        self.turns(one, &Some(steady), left, visits);
         self.leave_turns(mark, &way);
     }
 
@@ -121,22 +105,7 @@ impl<'a> Analysis<'a> {
         state.undefine(way.control);
     }
 
-    // Its turns.
-    #[cycle(statement)]
-    fn for_turns(&mut self, head: &ForHead, body: &Stmt, way: &Way, left: u32, visits: &mut Tally) {
-        for _ in 0..REPEATS {
-            let mark = self.mark();
-            if !self.for_turn(head, body, way, left, visits) {
-                return;
-            }
-            self.go_back(mark);
-        }
-        if self.for_turn(head, body, way, left, visits) {
-            self.make_own_due();
-        }
-    }
-
-    // One turn of it, and the way out. Whether the turn moved what is known at its head.
+    // One turn of it, and the way out.
     #[cycle(statement)]
     fn for_turn(
         &mut self,
@@ -156,7 +125,7 @@ impl<'a> Analysis<'a> {
     fn begin_turn(&mut self, number: u32, way: &Way) {
         self.enter_loop(number, Some(way.control));
         way.begin_turn(&mut self.walk.flow.state);
-        let turns = self.turns(number, way);
+        let turns = self.turns_of(number, way);
         if let Some(table) = self.loops.get_mut(number as usize) {
             table.most = turns.most;
         }
@@ -174,14 +143,14 @@ impl<'a> Analysis<'a> {
         let mark = self.mark();
         way.end_turn(&mut self.walk.flow.state);
         let moved = self.leave_turn(number, mark);
-        let turns = self.turns(number, way);
+        let turns = self.turns_of(number, way);
         turns.end(&mut self.walk.flow.state);
         way.leave(&mut self.walk.flow.state);
         moved
     }
 
     // What its turns go by, beside facts.
-    fn turns(&self, number: u32, way: &Way) -> Turns<'a> {
+    fn turns_of(&self, number: u32, way: &Way) -> Turns<'a> {
         Turns {
             round: self.walk.round(number, Some(way.control)),
             depth: self.depth,
@@ -194,11 +163,6 @@ impl<'a> Analysis<'a> {
         let moved = self.arrive_at_loop(number, true);
         self.go_back(mark);
         moved
-    }
-
-    // The block that is walked has to be walked again.
-    fn make_own_due(&mut self) {
-        self.make_due(self.walk.flow.grounds.block as usize);
     }
 
     // Goes on at the head of a loop, by what is known there so far.

@@ -1,9 +1,11 @@
 //! The certificate that facts make which stand at the end.
 
-use crate::analysis::Proposed;
 use crate::implied::drop_implied;
+use analyser_plan::Proposed;
 use certificate::{Certificate, Fact, LoopClaims, Section};
+use checker_loops::rows_named;
 use checker_rows::Rows;
+use domain::Domain;
 use std::mem;
 
 /// Puts facts into a certificate without facts, in their order, without those that others say as well.
@@ -44,9 +46,18 @@ fn fill(rows: &Rows, section: &mut Section, facts: &mut Proposed) {
 fn take(rows: &Rows, to: &mut Vec<Fact>, from: Option<&mut Vec<Fact>>) {
     if let Some(facts) = from {
         mem::swap(to, facts);
+        to.retain(|fact| !is_of_all(rows, fact));
         to.sort_unstable_by(|one, other| one.compare(other));
         to.dedup_by(|one, other| other.compare(one).is_eq());
         drop_implied(rows, to);
+    }
+}
+
+// Whether a range has all values of a type.
+fn is_of_all(rows: &Rows, fact: &Fact) -> bool {
+    match fact {
+        Fact::Range { path, range } => rows.row_limits(rows_named(rows, path).first).leq(range),
+        _ => false,
     }
 }
 

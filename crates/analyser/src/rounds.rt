@@ -1,10 +1,10 @@
 //! Rounds over the blocks of a program, until nothing moves any longer.
 
-use crate::analysis::Analysis;
 use crate::calls::WALK;
-use crate::tally::Tally;
+use crate::{Analysis, Tally};
 use analyser_tables::Table;
-use checker_loops::sections::Facts;
+use checker_loops::Facts;
+use std::mem;
 
 // How many walks may stand in one another.
 const DEEP: u32 = 32;
@@ -56,19 +56,11 @@ impl<'a> Analysis<'a> {
     // What no state came to counts as reached from here on, with the empty ranges that stand there.
     fn reach_all(&mut self) {
         for number in 0..self.due.len() {
-            if let Some(table) = self.entries.get_mut(number) {
-                if !table.is_reached {
-                    table.is_reached = true;
-                    self.make_due(number);
-                }
+            if reach(self.entries.get_mut(number)) {
+                self.make_due(number);
             }
-        }
-        for number in 0..self.due.len() {
-            if let Some(table) = self.exits.get_mut(number) {
-                if !table.is_reached {
-                    table.is_reached = true;
-                    self.make_callers_due(number);
-                }
+            if reach(self.exits.get_mut(number)) {
+                self.make_callers_due(number);
             }
         }
     }
@@ -80,18 +72,23 @@ impl<'a> Analysis<'a> {
             self.visit_alone(number, visits);
         }
         self.narrows = false;
-        let blocks_moved = self.narrow_blocks();
-        let loops_moved = self.narrow_loops();
-        blocks_moved || loops_moved
-    }
-
-    // The same where blocks begin and end.
-    fn narrow_blocks(&mut self) -> bool {
         let mut has_moved = false;
         for number in 0..self.due.len() {
-            let starts_moved = self.narrow_start(number);
-            let ends_moved = self.narrow_end(number);
-            has_moved = has_moved || starts_moved || ends_moved;
+            if self.narrow_start(number) {
+                self.make_due(number);
+                has_moved = true;
+            }
+            if self.narrow_end(number) {
+                self.make_callers_due(number);
+                has_moved = true;
+            }
+        }
+        let tree = self.state().table().tree();
+        for (number, one) in tree.loops.iter().enumerate() {
+            if self.narrow_loop(number) {
+                self.make_due(one.block as usize);
+                has_moved = true;
+            }
         }
         has_moved
     }
@@ -99,40 +96,19 @@ impl<'a> Analysis<'a> {
     // The same where a block begins.
     fn narrow_start(&mut self, number: usize) -> bool {
         let sections = &mut self.walk.flow.grounds.sections;
-        let has_moved = match (self.entries.get_mut(number), sections.get_mut(number)) {
+        match (self.entries.get_mut(number), sections.get_mut(number)) {
             (Some(table), Some(section)) => narrow_facts(table, &mut section.start),
             _ => false,
-        };
-        if has_moved {
-            self.make_due(number);
         }
-        has_moved
     }
 
     // The same where it ends.
     fn narrow_end(&mut self, number: usize) -> bool {
         let sections = &mut self.walk.flow.grounds.sections;
-        let has_moved = match (self.exits.get_mut(number), sections.get_mut(number)) {
+        match (self.exits.get_mut(number), sections.get_mut(number)) {
             (Some(table), Some(section)) => narrow_facts(table, &mut section.end),
             _ => false,
-        };
-        if has_moved {
-            self.make_callers_due(number);
         }
-        has_moved
-    }
-
-    // The same at the heads of loops.
-    fn narrow_loops(&mut self) -> bool {
-        let tree = self.state().table().tree();
-        let mut has_moved = false;
-        for (number, one) in tree.loops.iter().enumerate() {
-            if self.narrow_loop(number) {
-                has_moved = true;
-                self.make_due(one.block as usize);
-            }
-        }
-        has_moved
     }
 
     // The same at the head of a loop.
@@ -149,5 +125,13 @@ fn narrow_facts(table: &mut Table, facts: &mut Facts) -> bool {
     match facts {
         Facts::Kept(facts) => table.narrow(facts),
         Facts::Listed(_) => false,
+    }
+}
+
+// A place counts as reached. Whether it didn't before.
+fn reach(table: Option<&mut Table>) -> bool {
+    match table {
+        None => false,
+        Some(table) => !mem::replace(&mut table.is_reached, true),
     }
 }

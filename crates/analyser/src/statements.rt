@@ -1,11 +1,10 @@
-use crate::analysis::Analysis;
-use crate::tally::Tally;
-use analyser_claims::events::{events_of, expression_events};
-use checker_expressions::count::Count;
+use crate::{Analysis, Tally};
+use analyser_claims::{events_of, expression_events};
+use checker_expressions::Count;
 use checker_state::{Known, entire};
 use checker_ways::cases::begin_arm;
-use typed_tree::calls::{hold_call, holds_call, passed_holds_call, whole_holds_call};
 use typed_tree::tree::{CaseHead, Expr, Stmt, WithHead, WriteParameter, Written};
+use typed_tree::{hold_call, holds_call, passed_holds_call, whole_holds_call};
 
 // Statements, of which so many more may stand in one another.
 impl<'a> Analysis<'a> {
@@ -39,9 +38,8 @@ impl<'a> Analysis<'a> {
                 }
                 self.join_behind(mark, &first);
             }
-            Stmt::While { head, body } => self.while_loop(head, body, left, visits),
-            Stmt::Repeat { head, statements } => self.repeat_loop(head, statements, left, visits),
-            Stmt::For { head, body } => self.for_loop(head, body, left, visits),
+            Stmt::While { .. } | Stmt::Repeat { .. } => self.turns(statement, &None, left, visits),
+            Stmt::For { head, .. } => self.for_loop(statement, head, left, visits),
             Stmt::Case { head, arms } => self.case(head, arms, left, visits),
             Stmt::With { head, body } => {
                 self.records(head, left, visits);

@@ -1,6 +1,6 @@
 ghost use Rattle.std.specs.Prelude.{◌+◌, ◌-◌, ◌^◌, min};
 
-use checker_expressions::count::Count;
+use checker_expressions::Count;
 
 /// A count of entries into statements and expressions, whichever they are. It may be given up at any point.
 #[derive(Drop)]

@@ -1,12 +1,12 @@
 //! The ways of a walk: what is known where it is, and where ways part and meet.
 
-use crate::analysis::Analysis;
+use crate::Analysis;
 use checker_known::Branch;
 use checker_state::Known;
 use checker_trail::{Mark, State};
 use memory::Refused;
 use std::alloc::Global;
-use typed_tree::tree::{Block, Expr};
+use typed_tree::{Block, Expr};
 
 impl<'a> Analysis<'a> {
     /// What is known where the walk is.

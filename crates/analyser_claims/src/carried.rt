@@ -1,62 +1,67 @@
 //! What may hold in a block, told by the names of those that call it and that it calls.
 
-use crate::claim::{Claim, End};
+use crate::claim::{End, MANY, add_all, by_name};
 use crate::claims::entire;
-use crate::events::Event;
-use crate::lists::{number_of, row};
-use crate::parts::Array;
-use crate::program::Program;
-use checker_calls::visible::is_visible;
-use typed_tree::tree::Passed;
+use crate::{Array, Claim, Event, Program, array_accessed, naming, number_of, row};
+use checker_calls::is_visible;
+use std::mem;
+use typed_tree::Passed;
 
 /// How often claims are carried to callers at most, and then to what they call.
 const ROUNDS: u32 = 8;
 
-/// Another name of a value in another block, or of a variable that is passed as a whole.
+/// Another name, mostly in another block.
 #[derive(Clone, Copy)]
-struct Name {
-    from: End,
-    to: End,
-    is_variable: bool,
-}
-
-impl Name {
-    // That of a value.
-    fn of(from: End, to: End) -> Name {
-        Name {
-            from,
-            to,
-            is_variable: false,
-        }
-    }
+enum Name {
+    /// That of a value.
+    Value(End, End),
+    /// That of a variable with so many rows under it, which is passed; by the first of these, as arrays are.
+    Variable(Array, Array, usize),
 }
 
 impl<'p, 't> Program<'p, 't> {
-    /// What may hold in each block, by the outward variables that each mentions; it ascends.
-    pub fn all_claims(&self, mentions: &[Vec<u32>]) -> Vec<Vec<Claim>> {
-        let mut claims = self.memory.none();
+    /// What may hold in each block, by the variables that it names, as the outward variables are that each mentions; it
+    /// ascends.
+    pub fn all_claims(&self, mentions: &[Vec<u32>]) -> Vec<Vec<(u32, Claim)>> {
+        let memory = &self.memory;
+        let mut claims = memory.none();
         for block in 0..self.events.len() {
-            self.memory
-                .push(&mut claims, self.claims_in(number_of(block)));
+            memory.push(&mut claims, self.claims_in(number_of(block)));
         }
+        // How many there were that each block could carry, when it last did.
+        let mut carried = memory.list(Vec::from_elem(memory.alloc, 0, claims.len()));
         // What is told of copies comes last, so that it pushes out nothing else; then it is carried too.
         for _ in 0..2 {
-            self.carry_all(&mut claims, None);
-            self.carry_all(&mut claims, Some(mentions));
+            self.carry_all(&mut claims, mentions, &mut carried);
             for (block, claims) in claims.iter_mut().enumerate() {
                 self.add_copies(number_of(block), claims);
             }
         }
-        claims
+        let mut named = memory.none();
+        for claims in &claims {
+            memory.push(&mut named, by_name(memory, claims));
+        }
+        named
     }
 
     // Carries claims over all calls, back and forth, until there are no more or it was done often.
-    fn carry_all(&self, claims: &mut Vec<Vec<Claim>>, down: Option<&[Vec<u32>]>) {
+    fn carry_all(
+        &self,
+        claims: &mut Vec<Vec<Claim>>,
+        mentions: &[Vec<u32>],
+        carried: &mut [usize],
+    ) {
         let bodies = &self.tree.bodies;
         for _ in 0..ROUNDS {
             let mut is_more = false;
             for caller in bodies.iter().chain(bodies.iter().rev()) {
-                is_more |= self.carry(claims, *caller, down);
+                let count = self.count(claims, *caller);
+                if let Some(known) = carried.get_mut(*caller as usize)
+                    && mem::replace(known, count) != count
+                {
+                    is_more = true;
+                    self.carry(claims, *caller, mentions);
+                }
             }
             if !is_more {
                 break;
@@ -64,8 +69,23 @@ impl<'p, 't> Program<'p, 't> {
         }
     }
 
+    // How many claims its calls may carry to a block and from there.
+    fn count(&self, claims: &[Vec<Claim>], caller: u32) -> usize {
+        let own = row(claims, caller).len();
+        let mut count = 0usize;
+        for event in row(&self.events, caller) {
+            if let Event::Call { call, .. } = event {
+                let others = row(claims, call.block).len();
+                count = count.saturating_add(own).saturating_add(others);
+            }
+        }
+        count
+    }
+
     // Adds what is claimed of a variable also of those that get its value, and back.
     fn add_copies(&self, block: u32, claims: &mut Vec<Claim>) {
+        let named = by_name(&self.memory, claims);
+        let mut copied = self.memory.none();
         for event in row(&self.events, block) {
             if let Event::Assign(assignment) = event
                 && let Some(root) = entire(&assignment.target)
@@ -73,64 +93,81 @@ impl<'p, 't> Program<'p, 't> {
                 && let Some(other) = value.root
                 && other != root
             {
-                let (copy, original) = (End::variable(root), End::variable(other));
-                self.add_named(Name::of(copy, value), claims);
+                let copy = End::variable(root);
                 let back = copy.moved(value.number.saturating_neg());
-                self.add_named(Name::of(original, back), claims);
+                self.add_named(root, value, &named, &mut copied);
+                self.add_named(other, back, &named, &mut copied);
                 // What goes as far as a greater value goes as far as the copy too.
                 if value.number < 0 {
-                    self.add_named(Name::of(original, copy), claims);
+                    self.add_named(other, copy, &named, &mut copied);
                 }
+                add_all(&self.memory, claims, &mut copied, MANY);
+            }
+        }
+        add_all(&self.memory, claims, &mut copied, 0);
+    }
+
+    // Adds claims that name a variable also of a value by its side.
+    fn add_named(&self, root: u32, to: End, named: &[(u32, Claim)], copied: &mut Vec<Claim>) {
+        let name = Name::Value(End::variable(root), to);
+        for claim in naming(&self.memory, named, &[root]) {
+            if let Some(claim) = renamed(&[name], claim) {
+                self.memory.push(copied, claim);
             }
         }
     }
 
-    fn add_named(&self, name: Name, claims: &mut Vec<Claim>) {
-        let mut named = self.memory.none();
-        for claim in claims.iter() {
-            if let Some(claim) = renamed(&[name], *claim) {
-                self.memory.push(&mut named, claim);
-            }
-        }
-        for claim in named {
-            claim.add_to(&self.memory, claims);
-        }
-    }
-
-    // Carries claims over the calls of a block: to it, or to the blocks that it calls, where these mention something.
-    // Whether there are more then.
-    fn carry(&self, claims: &mut Vec<Vec<Claim>>, caller: u32, down: Option<&[Vec<u32>]>) -> bool {
-        let mut is_more = false;
+    // Carries claims of the blocks that a block calls to it, and its own to them, where they mention what these are of.
+    fn carry(&self, claims: &mut Vec<Vec<Claim>>, caller: u32, all: &[Vec<u32>]) {
+        let memory = &self.memory;
+        let named = by_name(memory, row(claims, caller));
+        let mut up = memory.none();
         for event in row(&self.events, caller) {
             let Event::Call { call, actuals } = event else {
                 continue;
             };
-            let (from, to) = match down {
-                None => (call.block, caller),
-                Some(_) => (caller, call.block),
-            };
-            let names = self.names(call.block, actuals, down.is_some());
-            for place in 0..row(claims, from).len() {
-                let Some(claim) = row(claims, from).get(place).copied() else {
-                    break;
-                };
-                for claim in [Some(claim), renamed(&names, claim)].iter().flatten() {
-                    let is_useful = match down {
-                        None => true,
-                        Some(mentions) => claim.is_of_any(row(mentions, to)),
-                    };
-                    if is_useful
-                        && self.sees(to, claim)
-                        && let Some(known) = claims.get_mut(to as usize)
-                    {
-                        let count = known.len();
-                        claim.add_to(&self.memory, known);
-                        is_more |= known.len() > count;
-                    }
-                }
+            let names = self.names(call.block, actuals);
+            self.add_carried(caller, row(claims, call.block), &names, &mut up);
+            self.add_to(claims, caller, &mut up, MANY);
+            if named.is_empty() {
+                continue;
+            }
+            let names = names.iter().map(|name| name.back());
+            let names = memory.list(names.collect(memory.alloc));
+            let mentions = row(all, call.block);
+            let mut roots = memory.list(Vec::from_slice(memory.alloc, mentions));
+            for root in names.iter().filter_map(|name| name.root()) {
+                memory.push(&mut roots, root);
+            }
+            let own = naming(memory, &named, &roots);
+            let mut down = memory.none();
+            self.add_carried(call.block, &own, &names, &mut down);
+            down.retain(|claim| claim.is_of_any(mentions));
+            self.add_to(claims, call.block, &mut down, 0);
+        }
+        self.add_to(claims, caller, &mut up, 0);
+    }
+
+    // Adds what was found to the claims of a block, once it is more than so many.
+    fn add_to(&self, claims: &mut [Vec<Claim>], block: u32, found: &mut Vec<Claim>, many: usize) {
+        if let Some(known) = claims.get_mut(block as usize) {
+            add_all(&self.memory, known, found, many);
+        }
+    }
+
+    // Adds claims of another block, as they are and by other names, where a block sees all that they name.
+    fn add_carried(&self, to: u32, carried: &[Claim], names: &[Name], found: &mut Vec<Claim>) {
+        for claim in carried {
+            if self.sees(to, claim) {
+                self.memory.push(found, *claim);
+            }
+            if let Some(other) = renamed(names, *claim)
+                && other != *claim
+                && self.sees(to, &other)
+            {
+                self.memory.push(found, other);
             }
         }
-        is_more
     }
 
     // Whether a block sees all that a claim names.
@@ -140,72 +177,82 @@ impl<'p, 't> Program<'p, 't> {
         named.all(|root| is_visible(self.tree, block, *root))
     }
 
-    // The names that a call gives, in the calling block or in the one that is called.
-    fn names(&self, block: u32, actuals: &[Passed], is_called: bool) -> Vec<Name> {
+    // What the formal parameters of a call are called in the calling block.
+    fn names(&self, block: u32, actuals: &[Passed]) -> Vec<Name> {
         let mut names = self.memory.none();
         for (formal, actual) in self.parameters(block).iter().zip(actuals.iter()) {
-            let (actual, is_variable) = match actual {
-                Passed::Value { value, .. } => (End::of(self.rows, value), false),
-                Passed::Whole { .. } => (None, false),
-                Passed::Reference { access, .. } => (
-                    entire(access).map(|root| End::variable(root)),
-                    true,
-                ),
-            };
-            if let Some(actual) = actual {
-                let formal = End::variable(*formal);
-                let (from, to) = if is_called {
-                    (actual, formal)
-                } else {
-                    (formal, actual)
-                };
-                self.memory.push(
-                    &mut names,
-                    Name {
-                        from,
-                        to,
-                        is_variable,
-                    },
-                );
+            if let Some(name) = self.name(*formal, actual) {
+                self.memory.push(&mut names, name);
             }
         }
         names
     }
+
+    // What a formal parameter is in the calling block: a value, or a variable or part of one to which no index leads.
+    fn name(&self, formal: u32, actual: &Passed) -> Option<Name> {
+        let one = End::variable(formal);
+        match actual {
+            Passed::Value { value, .. } => Some(Name::Value(one, End::of(self.rows, value)?)),
+            Passed::Whole { .. } => None,
+            Passed::Reference { access, .. } if self.rows.is_structured_variable(formal) => {
+                let rows = self.rows.of_variable(formal);
+                let (root, row) = (formal, rows.first);
+                let actual = array_accessed(self.rows, access, 0)?;
+                Some(Name::Variable(Array { root, row }, actual, rows.count))
+            }
+            Passed::Reference { access, .. } => {
+                Some(Name::Value(one, End::variable(entire(access)?)))
+            }
+        }
+    }
+}
+
+impl Name {
+    // The variable that gets the other one, if it is one.
+    fn root(&self) -> Option<u32> {
+        match self {
+            Name::Value(from, _) => from.root,
+            Name::Variable(from, _, _) => Some(from.root),
+        }
+    }
+
+    // What is called so, by this name.
+    fn back(&self) -> Name {
+        match self {
+            Name::Value(from, to) => Name::Value(*to, *from),
+            Name::Variable(from, to, rows) => Name::Variable(*to, *from, *rows),
+        }
+    }
 }
 
 fn renamed(names: &[Name], claim: Claim) -> Option<Claim> {
+    let renamed = |end| end_renamed(names, end);
     match claim {
-        Claim::Defined(array, first, last, inner) => {
-            let inner = match inner {
-                None => None,
-                Some((low, high)) => Some((end_renamed(names, low), end_renamed(names, high))),
-            };
+        Claim::Defined(array, inner, first, last) => {
             let array = array_renamed(names, array);
-            Some(Claim::Defined(
-                array,
-                end_renamed(names, first),
-                end_renamed(names, last),
-                inner,
-            ))
+            let inner = inner.map(|(low, high)| (renamed(low), renamed(high)));
+            Some(Claim::Defined(array, inner, renamed(first), renamed(last)))
         }
-        Claim::Order(root, other) => {
-            let root = end_renamed(names, End::variable(root)).root?;
-            let other = end_renamed(names, End::variable(other)).root?;
-            (root != other).then_some(Claim::Order(root, other))
+        Claim::Order(root, other, least) => {
+            let one = renamed(End::variable(root));
+            let another = renamed(End::variable(other));
+            let (root, other) = (one.root?, another.root?);
+            let by = another.number.saturating_sub(one.number);
+            let order = Claim::Order(root, other, least.saturating_add(by));
+            (root != other).then_some(order)
         }
     }
 }
 
 fn array_renamed(names: &[Name], array: Array) -> Array {
     for name in names {
-        if name.is_variable
-            && name.from.root == Some(array.root)
-            && let Some(root) = name.to.root
+        if let Name::Variable(from, to, rows) = name
+            && from.root == array.root
+            && let Some(by) = array.row.checked_sub(from.row)
+            && by < *rows
         {
-            return Array {
-                root,
-                part: array.part,
-            };
+            let row = to.row.saturating_add(by);
+            return Array { root: to.root, row };
         }
     }
     array
@@ -213,9 +260,13 @@ fn array_renamed(names: &[Name], array: Array) -> Array {
 
 fn end_renamed(names: &[Name], end: End) -> End {
     for name in names {
-        let by = end.number.saturating_sub(name.from.number);
-        if name.from.root == end.root && (end.root.is_some() || by == 0) {
-            return name.to.moved(by);
+        if let Name::Value(from, to) = name
+            && from.root == end.root
+        {
+            let by = end.number.saturating_sub(from.number);
+            if end.root.is_some() || by == 0 {
+                return to.moved(by);
+            }
         }
     }
     end

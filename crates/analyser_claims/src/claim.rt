@@ -1,17 +1,23 @@
-use crate::lists::Memory;
-use crate::parts::Array;
-use crate::program::Program;
+use crate::{Array, Memory, Program};
 use certificate::Fact;
 use checker_rows::Rows;
 use checker_state::{Bound, bound_form};
 use domain::facts::{self, Spans};
-use typed_tree::tree::Expr;
+use std::mem;
+use typed_tree::Expr;
 
-/// How many stretches of one array are proposed in a block at most, how many of its rows, and how many orders.
-const MOST_OF_ARRAY: usize = 24;
+/// How many stretches of one array are proposed in a block at most, how many of its rows, and how many orders of one
+/// variable.
+const MOST_OF_VARIABLE: usize = 24;
 
-/// How many claims; those of rows of matrices count for themselves, and push out no others.
-const MOST_OF_BLOCK: usize = 120;
+/// How many claims that name a variable count where it is changed or mentioned.
+const MOST_NAMING: usize = 96;
+
+/// How many claims are gathered before they are added.
+pub(crate) const MANY: usize = 4096;
+
+/// The least number at which an order begins.
+const LEAST_NUMBER: i64 = -32;
 
 /// A number, or the value of a variable plus a number.
 #[derive(Clone, Copy, PartialEq, Eq, PartialOrd, Ord)]
@@ -61,48 +67,42 @@ impl End {
 /// What may hold of variables.
 #[derive(Clone, Copy, PartialEq, Eq, PartialOrd, Ord)]
 pub enum Claim {
-    /// The elements of an array from one end to another are defined; of a matrix perhaps only those whose second index
-    /// lies between two other ends.
-    Defined(Array, End, End, Option<(End, End)>),
-    /// The value of one variable is at most that of another, or nearly.
-    Order(u32, u32),
+    /// The elements of an array from one end to another are defined, or of a matrix only those whose second index lies
+    /// between two other ends, which come first.
+    Defined(Array, Option<(End, End)>, End, End),
+    /// The value of one variable is at most that of another plus a number, from this on.
+    Order(u32, u32, i64),
 }
 
 impl Claim {
     /// The variables that it names.
     pub fn roots(&self) -> [Option<u32>; 5] {
         match self {
-            Claim::Defined(array, first, last, inner) => {
-                let (low, high) = match inner {
-                    None => (None, None),
-                    Some((low, high)) => (low.root, high.root),
-                };
+            Claim::Defined(array, inner, first, last) => {
+                let (low, high) = inner.map_or((None, None), |(low, high)| (low.root, high.root));
                 [Some(array.root), first.root, last.root, low, high]
             }
-            Claim::Order(root, other) => [Some(*root), Some(*other), None, None, None],
+            Claim::Order(root, other, _) => [Some(*root), Some(*other), None, None, None],
         }
-    }
-
-    /// Whether it names one of some variables, which ascend.
-    pub fn names_any(&self, roots: &[u32]) -> bool {
-        let named = self.roots();
-        let mut named = named.iter().flatten();
-        named.any(|root| roots.binary_search(root).is_ok())
     }
 
     /// Whether it is of one of some variables, which ascend: of an array of theirs, or their order.
     pub fn is_of_any(&self, roots: &[u32]) -> bool {
         match self {
             Claim::Defined(array, ..) => roots.binary_search(&array.root).is_ok(),
-            Claim::Order(..) => self.names_any(roots),
+            Claim::Order(root, other, _) => {
+                roots.binary_search(root).is_ok() || roots.binary_search(other).is_ok()
+            }
         }
     }
 
-    /// It as certificates tell it, if they have its numbers. An order begins at the least number that is tried.
+    /// It as certificates tell it, if they have its numbers. An order begins below the least number that is told of it.
     pub fn fact(&self, program: &Program) -> Option<Fact> {
         match self {
-            Claim::Defined(array, first, last, inner) => {
-                let part = program.parts(array.root).get(array.part)?;
+            Claim::Defined(array, inner, first, last) => {
+                let types = &program.tree.types;
+                let mut parts = program.parts(array.root).iter();
+                let part = parts.find(|part| part.is_array(types, *array))?;
                 let span = said_span(*first, *last)?;
                 let spans = match inner {
                     None => Spans::One(span),
@@ -111,49 +111,103 @@ impl Claim {
                 let path = part.path(&program.memory);
                 Some(Fact::Defined { path, spans })
             }
-            Claim::Order(root, other) => Some(Fact::Order {
+            Claim::Order(root, other, least) => Some(Fact::Order {
                 root: *root,
                 other: *other,
-                number: -1,
+                number: Bound::of_number(least.saturating_sub(1).max(LEAST_NUMBER).min(-1))?.number,
             }),
         }
     }
 
-    // Whether it is of rows of a matrix.
-    fn is_of_rows(&self) -> bool {
+    // Of what it is, of rows of a matrix last: claims ascend by that.
+    fn subject(&self) -> (bool, u32, usize, bool) {
         match self {
-            Claim::Defined(_, _, _, inner) => inner.is_some(),
-            Claim::Order(..) => false,
+            Claim::Defined(array, inner, ..) => (false, array.root, array.row, inner.is_some()),
+            Claim::Order(root, ..) => (true, *root, 0, false),
         }
     }
 
-    // Whether both are of one array, or of none.
-    fn is_beside(&self, other: &Claim) -> bool {
+    // How many others of the same stand among claims that ascend.
+    fn beside(&self, claims: &[Claim]) -> usize {
+        let first = claims.partition_point(|other| other.subject() < self.subject());
+        let end = claims.partition_point(|other| other.subject() <= self.subject());
+        end.saturating_sub(first)
+    }
+
+    // Whether it is among claims that ascend, or an order that begins lower.
+    fn is_told(&self, claims: &[Claim]) -> bool {
+        let behind = claims.partition_point(|other| *other <= *self);
+        let last = behind.checked_sub(1).and_then(|place| claims.get(place));
+        last.is_some_and(|last| last.is_twin(self))
+    }
+
+    // Whether it is the same, or an order of the same variables.
+    fn is_twin(&self, other: &Claim) -> bool {
         match (self, other) {
-            (Claim::Defined(array, ..), Claim::Defined(another, ..)) => array == another,
-            (Claim::Order(..), Claim::Order(..)) => true,
-            _ => false,
+            (Claim::Order(one, another, _), Claim::Order(root, second, _)) => {
+                one == root && another == second
+            }
+            _ => self == other,
         }
     }
+}
 
-    /// Adds it to claims, which ascend, unless there are many.
-    pub(crate) fn add_to(self, memory: &Memory, claims: &mut Vec<Claim>) {
-        if let Err(place) = claims.binary_search(&self) {
-            let (mut alike, mut beside) = (0usize, 0usize);
-            for other in claims
-                .iter()
-                .filter(|other| self.is_of_rows() == other.is_of_rows())
-            {
-                alike = alike.saturating_add(1);
-                if self.is_beside(other) {
-                    beside = beside.saturating_add(1);
-                }
-            }
-            if alike < MOST_OF_BLOCK && beside < MOST_OF_ARRAY {
-                memory.insert(claims, place, self);
-            }
+/// Adds what was found to claims, which ascend, once it is more than so many: each, unless there are many of the same.
+/// Of orders of the same variables the one stays that begins the lowest.
+pub(crate) fn add_all(
+    memory: &Memory,
+    claims: &mut Vec<Claim>,
+    found: &mut Vec<Claim>,
+    many: usize,
+) {
+    if found.len() <= many {
+        return;
+    }
+    let mut fresh = mem::replace(found, memory.none());
+    fresh.retain(|claim| !claim.is_told(claims));
+    fresh.sort_unstable();
+    fresh.dedup_by(|next, one| one.is_twin(next));
+    let mut added = memory.none();
+    for claim in fresh {
+        if claim.beside(claims).saturating_add(claim.beside(&added)) < MOST_OF_VARIABLE {
+            memory.push(&mut added, claim);
         }
     }
+    if !added.is_empty() {
+        for claim in added {
+            memory.push(claims, claim);
+        }
+        claims.sort_unstable();
+        claims.dedup_by(|next, one| one.is_twin(next));
+    }
+}
+
+/// Claims by the variables that they name; it ascends.
+pub(crate) fn by_name(memory: &Memory, claims: &[Claim]) -> Vec<(u32, Claim)> {
+    let mut named = memory.none();
+    for claim in claims {
+        for root in claim.roots().iter().flatten() {
+            memory.push(&mut named, (*root, *claim));
+        }
+    }
+    named.sort_unstable();
+    named.dedup();
+    named
+}
+
+/// Those that name one of some variables; one may stand there more than once.
+pub fn naming(memory: &Memory, named: &[(u32, Claim)], roots: &[u32]) -> Vec<Claim> {
+    let mut claims = memory.none();
+    for root in roots {
+        let first = named.partition_point(|(other, _)| *other < *root);
+        for (other, claim) in named.get(first..).unwrap_or(&[]).iter().take(MOST_NAMING) {
+            if other != root {
+                break;
+            }
+            memory.push(&mut claims, *claim);
+        }
+    }
+    claims
 }
 
 // A span as certificates tell it, if they have its numbers.

@@ -1,350 +1,372 @@
 //! What may hold of the variables of a block, by what stands in it.
 
-use crate::claim::{Claim, End};
-use crate::events::Event;
-use crate::lists::row;
-use crate::parts::{Array, Part, array_accessed, matrix_accessed};
-use crate::program::Program;
-use checker_rows::limits;
-use domain::interval::Interval;
-use typed_tree::tree::{Access, Base, Direction, Dyadic, Expr, ForHead};
-use types::TypeTable;
+use crate::claim::{End, MANY, add_all};
+use crate::{Array, Claim, Event, Memory, Program, array_accessed, row};
+use checker_rows::{Rows, limits};
+use domain::Interval;
+use typed_tree::{Access, Base, Direction, Dyadic, Expr, ForHead};
 
-/// How much of what is done with a variable counts for each store by it.
-const MOST_DEEDS: usize = 24;
+/// How many deeds of a kind count for a store at most, and how many of these from before the loop in which it stands.
+const MOST_DEEDS: usize = 6;
 
-/// What is done with a variable in a block.
+const BEFORE: usize = 2;
+
+/// What is done with a variable.
 #[derive(Clone, Copy, PartialEq, Eq, PartialOrd, Ord)]
-enum Deed {
-    /// It is the control variable of a for from one bound up to another, or down.
-    Runs(End, End),
-    /// It rises from an end, or falls from one.
-    Rises(End),
-    Falls(End),
+enum Kind {
     /// It is set to a value.
-    Begins(End),
+    Begins,
     /// It is set to a greater value than it had, or to a less one.
     Ascends,
     Descends,
     /// Its value is compared with a bound.
-    Meets(End),
-    /// Its value plus a number selects the element of an array that gets a value.
-    Selects(Array, i64),
-    /// In the row of a matrix at an end, its value plus a number selects the element that gets a value.
-    SelectsIn(Array, End, i64),
+    Meets,
 }
 
-/// Where stretches lie: in an array, or in the row of a matrix at an end.
+/// What is done in a block with which variable, by which event, and the value or the bound.
+#[derive(Clone, Copy, PartialEq, Eq, PartialOrd, Ord)]
+struct Deed {
+    key: (u32, Kind, usize),
+    end: End,
+}
+
+/// Where a variable begins, and where it ends.
+type Ways = (Vec<End>, Vec<End>);
+
+/// A loop by the events between which it lies, with the loop round it, and with its head if it is a for.
 #[derive(Clone, Copy)]
-struct Line {
+struct Turns<'t> {
+    first: usize,
+    end: usize,
+    outer: Option<usize>,
+    head: Option<&'t ForHead>,
+}
+
+/// An element gets a value, or a part of it, by an event in a loop: of an array, or of the row of a matrix at an end. A
+/// variable plus a number selects it.
+#[derive(Clone, Copy)]
+struct Store {
     array: Array,
     row: Option<End>,
+    root: u32,
+    by: i64,
+    place: usize,
+    inside: Option<usize>,
 }
 
-impl Line {
-    // That its elements from one end to another are defined.
-    fn stretch(self, first: End, last: End) -> Claim {
+/// What is done in a block.
+#[derive(Drop)]
+struct Deeds<'t> {
+    /// With variables: by these, the kinds, and the events.
+    of_variables: Vec<Deed>,
+    stores: Vec<Store>,
+    /// Which elements of arrays get values that constants select.
+    at_constants: Vec<(Array, i64)>,
+    loops: Vec<Turns<'t>>,
+    /// Where the walk over the events is, and in which loop.
+    place: usize,
+    inside: Option<usize>,
+}
+
+impl Store {
+    // That the elements are defined that the variable selects from one value to another, by steps of 1 or -1.
+    fn stretch(&self, step: i64, from: End, to: End) -> Claim {
+        let (from, to) = (from.moved(self.by), to.moved(self.by));
+        let (first, last) = if step > 0 { (from, to) } else { (to, from) };
         match self.row {
-            None => Claim::Defined(self.array, first, last, None),
-            Some(row) => Claim::Defined(self.array, row, row, Some((first, last))),
+            None => Claim::Defined(self.array, None, first, last),
+            Some(row) => Claim::Defined(self.array, Some((first, last)), row, row),
         }
+    }
+
+    // The values of the index.
+    fn values(&self, rows: &Rows) -> Option<Interval> {
+        let index = match self.row {
+            None => rows.index(self.array.row),
+            Some(_) => rows.inner(self.array.row),
+        };
+        Some(limits(index?))
     }
 }
 
-/// What is done with the variables and the arrays of a block.
-#[derive(Drop)]
-struct Deeds {
-    /// What is done with variables: in ascending order, each once.
-    of_variables: Vec<(u32, Deed)>,
-    /// Which elements of arrays get values that constants select: likewise.
-    at_constants: Vec<(Array, i64)>,
+impl<'t> Deeds<'t> {
+    fn enter(&mut self, memory: &Memory, head: Option<&'t ForHead>) {
+        let turns = Turns {
+            first: self.place,
+            end: usize::MAX,
+            outer: self.inside,
+            head,
+        };
+        self.inside = Some(self.loops.len());
+        memory.push(&mut self.loops, turns);
+    }
+
+    fn leave(&mut self) {
+        if let Some(inside) = self.inside
+            && let Some(turns) = self.loops.get_mut(inside)
+        {
+            turns.end = self.place;
+            self.inside = turns.outer;
+        }
+    }
+
+    // How many deeds stand before those of a kind from an event on.
+    fn before(&self, root: u32, kind: Kind, place: usize) -> usize {
+        let key = (root, kind, place);
+        self.of_variables.partition_point(|deed| deed.key < key)
+    }
+
+    // Those of a kind in a loop, and so many before it.
+    fn among(&self, root: u32, kind: Kind, turns: &Turns, more: usize) -> &[Deed] {
+        let first = self.before(root, kind, turns.first).saturating_sub(more);
+        let first = first.max(self.before(root, kind, 0));
+        let end = self.before(root, kind, turns.end);
+        let end = end.min(first.saturating_add(MOST_DEEDS));
+        self.of_variables.get(first..end).unwrap_or(&[])
+    }
+
+    // The innermost loop round a store that is a for over its variable, or that steps the variable; else none, at the
+    // store.
+    fn turns(&self, store: &Store) -> Turns<'t> {
+        let mut inside = store.inside;
+        for _ in &self.loops {
+            let Some(turns) = inside.and_then(|place| self.loops.get(place)) else {
+                break;
+            };
+            let rises = self.among(store.root, Kind::Ascends, turns, 0);
+            let falls = self.among(store.root, Kind::Descends, turns, 0);
+            let is_stepped = !(rises.is_empty() && falls.is_empty());
+            if is_stepped || turns.head.is_some_and(|head| head.control == store.root) {
+                return *turns;
+            }
+            inside = turns.outer;
+        }
+        Turns {
+            first: store.place,
+            end: store.place,
+            outer: None,
+            head: None,
+        }
+    }
 }
 
 impl<'p, 't> Program<'p, 't> {
     /// What may hold in a block; it ascends.
     pub(crate) fn claims_in(&self, block: u32) -> Vec<Claim> {
-        let deeds = self.deeds_in(block);
-        let mut claims = self.memory.none();
-        for (root, deed) in &deeds.of_variables {
-            let own = deeds_of(&deeds.of_variables, *root);
-            let index = End::variable(*root);
-            match deed {
-                Deed::Selects(array, by) => {
-                    let line = Line {
-                        array: *array,
-                        row: None,
-                    };
-                    self.add_stretches(line, index.moved(*by), own, &mut claims);
-                }
-                Deed::SelectsIn(array, row, by) => {
-                    let line = Line {
-                        array: *array,
-                        row: Some(*row),
-                    };
-                    self.add_stretches(line, index.moved(*by), own, &mut claims);
-                }
-                Deed::Begins(end) | Deed::Meets(end) => {
-                    if let Some(other) = end.root {
-                        Claim::Order(*root, other).add_to(&self.memory, &mut claims);
-                        Claim::Order(other, *root).add_to(&self.memory, &mut claims);
-                    }
-                }
-                _ => {}
+        let memory = &self.memory;
+        let mut deeds = self.deeds_in(block);
+        deeds.of_variables.sort_unstable();
+        deeds.at_constants.sort_unstable();
+        deeds.at_constants.dedup();
+        let (mut claims, mut found) = (memory.none(), memory.none());
+        for store in &deeds.stores {
+            self.add_stretches(store, &deeds, &mut found);
+            add_all(memory, &mut claims, &mut found, MANY);
+        }
+        for deed in &deeds.of_variables {
+            let ((root, _, _), number) = (deed.key, deed.end.number);
+            if let Some(other) = deed.end.root
+                && other != root
+            {
+                let back = Claim::Order(other, root, number.saturating_neg());
+                memory.push(&mut found, Claim::Order(root, other, number));
+                memory.push(&mut found, back);
             }
         }
-        self.add_runs(&deeds.at_constants, &mut claims);
+        for run in deeds.at_constants.chunk_by(|one, next| {
+            one.0 == next.0 && one.1.saturating_add(1) == next.1
+        }) {
+            if let Some((array, first)) = run.first()
+                && let Some((_, last)) = run.last()
+            {
+                let (first, last) = (End::constant(*first), End::constant(*last));
+                memory.push(&mut found, Claim::Defined(*array, None, first, last));
+            }
+        }
+        add_all(memory, &mut claims, &mut found, 0);
         claims
     }
 
-    fn deeds_in(&self, block: u32) -> Deeds {
+    fn deeds_in(&self, block: u32) -> Deeds<'t> {
         let mut deeds = Deeds {
             of_variables: self.memory.none(),
+            stores: self.memory.none(),
             at_constants: self.memory.none(),
+            loops: self.memory.none(),
+            place: 0,
+            inside: None,
         };
-        for event in row(&self.events, block) {
+        for (place, event) in row(&self.events, block).iter().enumerate() {
+            deeds.place = place;
             self.see(event, &mut deeds);
         }
-        deeds.of_variables.sort_unstable();
-        deeds.of_variables.dedup();
-        deeds.at_constants.sort_unstable();
-        deeds.at_constants.dedup();
         deeds
     }
 
-    fn note(&self, deeds: &mut Deeds, root: u32, deed: Deed) {
-        self.memory.push(&mut deeds.of_variables, (root, deed));
-    }
-
-    // Notes what is done with variables by an event.
-    fn see(&self, event: &Event, deeds: &mut Deeds) {
+    // Notes what an event does.
+    fn see(&self, event: &Event<'t>, deeds: &mut Deeds<'t>) {
         match event {
             Event::Assign(assignment) => {
                 self.see_store(&assignment.target, &assignment.indexes, deeds);
-                self.see_value(&assignment.target, &assignment.value, deeds);
+                if let Some(root) = entire(&assignment.target) {
+                    self.see_end(root, &assignment.value, Kind::Begins, deeds);
+                }
             }
             Event::Copy(copying) => self.see_store(&copying.target, &copying.indexes, deeds),
             Event::Read(read) => self.see_store(&read.access, &read.indexes, deeds),
-            Event::Enter {
-                head: Some(head),
-                ..
-            } => {
-                if let Some(first) = End::of(self.rows, &head.first.value) {
-                    let last = End::of(self.rows, &head.last.value);
-                    self.see_turns(head, first, last.unwrap_or(first), deeds);
+            Event::Enter { head, .. } => {
+                if let Some(head) = head {
+                    self.see_end(head.control, &head.first.value, Kind::Meets, deeds);
+                    self.see_end(head.control, &head.last.value, Kind::Meets, deeds);
                 }
+                deeds.enter(&self.memory, *head);
             }
+            Event::Leave => deeds.leave(),
             Event::Chain {
                 first,
                 rest: [link],
             } if matches!(link.operation, Dyadic::Relation(_)) => {
-                if let Some(one) = End::of(self.rows, first)
-                    && let Some(other) = End::of(self.rows, &link.operand)
-                {
-                    self.see_met(one, other, deeds);
-                    self.see_met(other, one, deeds);
-                }
+                self.see_met(first, &link.operand, deeds);
+                self.see_met(&link.operand, first, deeds);
             }
             _ => {}
         }
     }
 
-    // The value of a bound is compared with that of another.
-    fn see_met(&self, one: End, other: End, deeds: &mut Deeds) {
-        if let Some(root) = one.root
+    // The value of a variable plus a number is compared with that of another expression perhaps.
+    fn see_met(&self, one: &Expr, other: &Expr, deeds: &mut Deeds) {
+        if let Some(one) = End::of(self.rows, one)
+            && let Some(root) = one.root
+            && let Some(other) = End::of(self.rows, other)
             && other.root != one.root
         {
-            let met = other.moved(one.number.saturating_neg());
-            self.note(deeds, root, Deed::Meets(met));
+            let end = other.moved(one.number.saturating_neg());
+            self.note(root, Kind::Meets, end, deeds);
         }
+    }
+
+    // A variable is set to the value of an expression, or meets it.
+    fn see_end(&self, root: u32, expression: &Expr, kind: Kind, deeds: &mut Deeds) {
+        if let Some(end) = End::of(self.rows, expression) {
+            let kind = match end.root {
+                Some(other) if other == root && end.number < 0 => Kind::Descends,
+                Some(other) if other == root => Kind::Ascends,
+                _ => kind,
+            };
+            self.note(root, kind, end, deeds);
+        }
+    }
+
+    fn note(&self, root: u32, kind: Kind, end: End, deeds: &mut Deeds) {
+        let key = (root, kind, deeds.place);
+        self.memory.push(&mut deeds.of_variables, Deed { key, end });
     }
 
     // An element gets a value perhaps.
     fn see_store(&self, access: &Access, indexes: &[Expr], deeds: &mut Deeds) {
-        let parts = self.parts(access.root);
-        if let Some(array) = array_accessed(parts, access)
+        if let Some(array) = array_accessed(self.rows, access, 1)
             && let Some(index) = indexes.last()
-            && let Some(index) = End::of(self.rows, index)
         {
-            self.see_index(array, index, deeds);
-            if index.root.is_none() {
-                self.memory
-                    .push(&mut deeds.at_constants, (array, index.number));
-            }
+            self.see_index(array, None, index, deeds);
         }
-        if let Some(matrix) = matrix_accessed(parts, access)
+        if let Some(array) = array_accessed(self.rows, access, 2)
             && let [.., row, index] = indexes
-            && let Some(row) = End::of(self.rows, row)
-            && let Some(index) = End::of(self.rows, index)
         {
-            self.see_index(matrix, row, deeds);
-            if let Some(root) = index.root {
-                self.note(deeds, root, Deed::SelectsIn(matrix, row, index.number));
+            self.see_index(array, None, row, deeds);
+            if let Some(row) = End::of(self.rows, row) {
+                self.see_index(array, Some(row), index, deeds);
             }
         }
     }
 
-    // An element of an array gets a value at an index, or a part of the element.
-    fn see_index(&self, array: Array, index: End, deeds: &mut Deeds) {
-        if let Some(root) = index.root {
-            self.note(deeds, root, Deed::Selects(array, index.number));
-        }
-    }
-
-    // An ordinal variable gets the value of a bound perhaps.
-    fn see_value(&self, target: &Access, value: &Expr, deeds: &mut Deeds) {
-        let Some(end) = End::of(self.rows, value) else {
+    // An element gets a value at an index, or a part of the element.
+    fn see_index(&self, array: Array, row: Option<End>, index: &Expr, deeds: &mut Deeds) {
+        let Some(End { root, number: by }) = End::of(self.rows, index) else {
             return;
         };
-        let Some(root) = entire(target) else {
+        if let Some(root) = root {
+            let store = Store {
+                array,
+                row,
+                root,
+                by,
+                place: deeds.place,
+                inside: deeds.inside,
+            };
+            self.memory.push(&mut deeds.stores, store);
+        } else if row.is_none() {
+            self.memory.push(&mut deeds.at_constants, (array, by));
+        }
+    }
+
+    // Stretches that a store lengthens: from where its variable begins, or from the end of the array, up to the index
+    // and to where that goes, by steps of 1 or -1.
+    fn add_stretches(&self, store: &Store, deeds: &Deeds, found: &mut Vec<Claim>) {
+        let Some(values) = store.values(self.rows) else {
             return;
         };
-        let deed = match end.root {
-            Some(other) if other == root && end.number < 0 => Deed::Descends,
-            Some(other) if other == root => Deed::Ascends,
-            _ => Deed::Begins(end),
-        };
-        self.note(deeds, root, deed);
-    }
-
-    // A control variable goes from one bound to another.
-    fn see_turns(&self, head: &ForHead, first: End, last: End, deeds: &mut Deeds) {
-        let (begins, runs) = match head.direction {
-            Direction::To => (Deed::Rises(first), Deed::Runs(first, last)),
-            Direction::DownTo => (Deed::Falls(first), Deed::Runs(last, first)),
-        };
-        self.note(deeds, head.control, begins);
-        self.note(deeds, head.control, runs);
-    }
-
-    // Stretches that a store at an index lengthens, by what is done with the variable of that: from where it rises up
-    // to the index, from behind that up to where it falls from, and all over which it runs.
-    fn add_stretches(
-        &self,
-        line: Line,
-        index: End,
-        deeds: &[(u32, Deed)],
-        claims: &mut Vec<Claim>,
-    ) {
-        let memory = &self.memory;
-        let Some(values) = index_values(&self.tree.types, self.parts(line.array.root), line) else {
-            return;
-        };
-        let by = index.number;
-        let (rises, falls) = directions(deeds);
-        let (mut lows, mut highs) = (memory.none(), memory.none());
-        memory.push(&mut lows, End::constant(values.first()));
-        memory.push(&mut highs, End::constant(values.last()));
-        for (_, deed) in deeds {
-            match deed {
-                Deed::Runs(low, high) => {
-                    line.stretch(low.moved(by), high.moved(by))
-                        .add_to(memory, claims);
-                }
-                Deed::Rises(low) => memory.push(&mut lows, low.moved(by)),
-                Deed::Falls(high) => memory.push(&mut highs, high.moved(by)),
-                Deed::Begins(begin) => {
-                    let begin = begin.moved(by);
-                    if rises {
-                        memory.push(&mut lows, begin);
-                        memory.push(&mut lows, begin.moved(1));
-                    }
-                    if falls {
-                        memory.push(&mut highs, begin);
-                        memory.push(&mut highs, begin.moved(-1));
-                    }
-                }
-                _ => {}
-            }
-        }
-        lows.retain(|low| low.root.is_some() || values.has(low.number));
-        highs.retain(|high| high.root.is_some() || values.has(high.number));
-        for low in &lows {
-            line.stretch(*low, index.moved(-1)).add_to(memory, claims);
-            line.stretch(*low, index).add_to(memory, claims);
-        }
-        for high in &highs {
-            line.stretch(index.moved(1), *high).add_to(memory, claims);
-            if falls {
-                line.stretch(index, *high).add_to(memory, claims);
-            }
-        }
-        self.add_passed(line, by, deeds, claims);
-    }
-
-    // Stretches that a loop that steps an index fills, from where it begins to what it is compared with.
-    fn add_passed(&self, line: Line, by: i64, deeds: &[(u32, Deed)], claims: &mut Vec<Claim>) {
-        let (rises, falls) = directions(deeds);
-        for (_, deed) in deeds {
-            let Deed::Begins(begin) = deed else {
+        let turns = deeds.turns(store);
+        for (step, outermost) in [(1, values.first()), (-1, values.last())] {
+            let Some((mut begins, ends)) = self.ways(store, step, &turns, deeds) else {
                 continue;
             };
-            for (_, deed) in deeds {
-                let Deed::Meets(met) = deed else {
-                    continue;
-                };
-                let (begin, met) = (begin.moved(by), met.moved(by));
-                if rises {
-                    line.stretch(begin, met).add_to(&self.memory, claims);
-                    line.stretch(begin, met.moved(-1))
-                        .add_to(&self.memory, claims);
+            begins.retain(|begin| {
+                begin.root.is_some() || values.has(begin.number.saturating_add(store.by))
+            });
+            for begin in &begins {
+                for end in &ends {
+                    self.memory.push(found, store.stretch(step, *begin, *end));
                 }
-                if falls {
-                    line.stretch(met, begin).add_to(&self.memory, claims);
-                    line.stretch(met.moved(1), begin)
-                        .add_to(&self.memory, claims);
+            }
+            let outermost = End::constant(outermost.saturating_sub(store.by));
+            let index = End::variable(store.root);
+            for begin in begins.iter().chain(&[outermost]) {
+                for end in [index, index.moved(step.saturating_neg())] {
+                    self.memory.push(found, store.stretch(step, *begin, end));
                 }
             }
         }
     }
 
-    // The elements of arrays at constants, each with those right behind it.
-    fn add_runs(&self, constants: &[(Array, i64)], claims: &mut Vec<Claim>) {
-        let mut run: Option<(Array, i64, i64)> = None;
-        for (array, at) in constants {
-            run = match run {
-                Some((one, first, last)) if one == *array && *at == last.saturating_add(1) => Some((
-                    one, first, *at,
-                )),
-                _ => {
-                    self.add_run(run, claims);
-                    Some((*array, *at, *at))
-                }
-            };
+    // From where the variable of a store goes, and up to where, if it goes by such steps. One that isn't stepped may go
+    // up from where it is set, and down.
+    fn ways(&self, store: &Store, step: i64, turns: &Turns, deeds: &Deeds) -> Option<Ways> {
+        let (mut begins, mut ends) = (self.memory.none(), self.memory.none());
+        if let Some(head) = turns.head
+            && head.control == store.root
+        {
+            if let Some(first) = End::of(self.rows, &head.first.value) {
+                self.memory.push(&mut begins, first);
+            }
+            if let Some(last) = End::of(self.rows, &head.last.value) {
+                self.memory.push(&mut ends, last);
+            }
+            let goes = matches!(head.direction, Direction::To) == (step > 0);
+            return goes.then_some((begins, ends));
         }
-        self.add_run(run, claims);
-    }
-
-    fn add_run(&self, run: Option<(Array, i64, i64)>, claims: &mut Vec<Claim>) {
-        if let Some((array, first, last)) = run {
-            let claim = Claim::Defined(array, End::constant(first), End::constant(last), None);
-            claim.add_to(&self.memory, claims);
+        let rises = deeds.among(store.root, Kind::Ascends, turns, 0);
+        let falls = deeds.among(store.root, Kind::Descends, turns, 0);
+        let (steps, others) = if step > 0 {
+            (rises, falls)
+        } else {
+            (falls, rises)
+        };
+        let is_free = step > 0 && steps.is_empty();
+        for deed in deeds.among(store.root, Kind::Begins, turns, BEFORE) {
+            if is_free || steps.iter().any(|one| store.place < one.key.2) {
+                self.memory.push(&mut begins, deed.end);
+            }
+            if is_free || steps.iter().any(|one| one.key.2 < store.place) {
+                self.memory.push(&mut begins, deed.end.moved(step));
+            }
         }
+        for deed in deeds.among(store.root, Kind::Meets, turns, 0) {
+            for end in [deed.end, deed.end.moved(step.saturating_neg())] {
+                self.memory.push(&mut ends, end);
+            }
+        }
+        (!steps.is_empty() || others.is_empty()).then_some((begins, ends))
     }
-}
-
-// Whether a variable rises and whether it falls by steps: one without any is taken to rise.
-fn directions(deeds: &[(u32, Deed)]) -> (bool, bool) {
-    let steps = |step| deeds.iter().any(|(_, deed)| *deed == step);
-    let falls = steps(Deed::Descends);
-    (!falls || steps(Deed::Ascends), falls)
-}
-
-// The first of the deeds of a variable.
-fn deeds_of(deeds: &[(u32, Deed)], root: u32) -> &[(u32, Deed)] {
-    let first = deeds.partition_point(|(other, _)| *other < root);
-    let end = deeds.partition_point(|(other, _)| *other <= root);
-    let end = end.min(first.saturating_add(MOST_DEEDS));
-    deeds.get(first..end).unwrap_or(&[])
-}
-
-// The values of the index type of an array, or of its rows.
-fn index_values(types: &TypeTable, parts: &[Part], line: Line) -> Option<Interval> {
-    let outer = types.element(parts.get(line.array.part)?.type_id)?;
-    let elements = match line.row {
-        None => outer,
-        Some(_) => types.element(outer.type_id)?,
-    };
-    Some(limits(elements.range))
 }
 
 /// The variable that is accessed, if it is accessed as a whole.

@@ -1,7 +1,9 @@
 //! A statement laid out as a list of what happens in it, in the order of evaluation (ISO 7185:1990, 6.7, 6.8).
 
+use crate::Memory;
+use place::Place;
 use std::alloc::{AllocError, Global};
-use typed_tree::tree::{
+use typed_tree::{
     Access, Assignment, Call, CaseHead, Copying, Expr, ForHead, Link, Passed, ReadVariable, Stmt,
     Whole, Width, WriteParameter, Written,
 };
@@ -31,6 +33,7 @@ pub enum Event<'t> {
     /// A loop begins: a for behind its bounds, a while or a repeat before its condition.
     Enter {
         number: u32,
+        place: Place,
         head: Option<&'t ForHead>,
     },
     /// The last loop that began and hasn't ended ends.
@@ -41,7 +44,7 @@ pub enum Event<'t> {
 #[derive(Drop)]
 struct Events<'t> {
     list: Vec<Event<'t>>,
-    refused: Option<AllocError>,
+    memory: Memory,
 }
 
 /// What happens in a statement.
@@ -71,21 +74,17 @@ impl<'t> Events<'t> {
     fn none(alloc: Global) -> Events<'t> {
         Events {
             list: Vec::new(alloc),
-            refused: None,
+            memory: Memory::of(alloc),
         }
     }
 
     fn finish(self) -> Result<Vec<Event<'t>>, AllocError> {
-        match self.refused {
-            Some(error) => Err(error),
-            None => Ok(self.list),
-        }
+        self.memory.finish()?;
+        Ok(self.list)
     }
 
     fn push(&mut self, event: Event<'t>) {
-        if let Err(error) = self.list.push(event) {
-            self.refused = Some(error.into());
-        }
+        self.memory.push(&mut self.list, event);
     }
 }
 
@@ -122,13 +121,13 @@ impl<'t> Events<'t> {
                 }
             }
             Stmt::While { head, body } => {
-                self.enter(head.loop_number, None);
+                self.enter(head.loop_number, head.place, None);
                 self.expression(&head.condition);
                 self.statement(body);
                 self.push(Event::Leave);
             }
             Stmt::Repeat { head, statements } => {
-                self.enter(head.loop_number, None);
+                self.enter(head.loop_number, head.place, None);
                 self.statements(statements);
                 self.expression(&head.condition);
                 self.push(Event::Leave);
@@ -136,7 +135,7 @@ impl<'t> Events<'t> {
             Stmt::For { head, body } => {
                 self.expression(&head.first.value);
                 self.expression(&head.last.value);
-                self.enter(head.loop_number, Some(head));
+                self.enter(head.loop_number, head.place, Some(head));
                 self.statement(body);
                 self.push(Event::Leave);
             }
@@ -161,8 +160,12 @@ impl<'t> Events<'t> {
         }
     }
 
-    fn enter(&mut self, number: u32, head: Option<&'t ForHead>) {
-        self.push(Event::Enter { number, head });
+    fn enter(&mut self, number: u32, place: Place, head: Option<&'t ForHead>) {
+        self.push(Event::Enter {
+            number,
+            place,
+            head,
+        });
     }
 
     fn written(&mut self, parameters: &'t [WriteParameter]) {

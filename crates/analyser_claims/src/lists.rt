@@ -37,16 +37,6 @@ impl Memory {
         }
     }
 
-    /// Puts an item into a list, at a place that is there.
-    pub(crate) fn insert<T: Drop>(&self, list: &mut Vec<T>, place: usize, item: T) {
-        if place > list.len() {
-            return;
-        }
-        if let Err(error) = list.insert(place, item) {
-            self.refused.set(Some(error.into()));
-        }
-    }
-
     /// A list that was made, if there was memory for it.
     pub fn list<T: Drop>(&self, made: Result<Vec<T>, AllocError>) -> Vec<T> {
         match made {

@@ -1,6 +1,7 @@
-use crate::lists::{Memory, number_of};
-use domain::facts::{Path, Step};
-use typed_tree::tree::{Access, Base, PathStep, Selector, Tree};
+use crate::{Memory, number_of};
+use checker_rows::Rows;
+use domain::{Path, Step};
+use typed_tree::{Access, Base, PathStep, Selector};
 use types::{TypeForm, TypeId, TypeTable};
 
 /// How many parts of a variable are told apart.
@@ -11,18 +12,28 @@ const MOST_PARTS: usize = 64;
 pub struct Part {
     path: Path,
     pub type_id: TypeId,
-    // At which place among the parts of the variable its own begin: the elements, or the fields in their order.
-    inner: usize,
+    // The first row under it.
+    first: usize,
 }
 
-/// An array, by its place among the parts of a variable.
+/// An array, or what is passed for one, to which no index leads, by the first row under it.
 #[derive(Clone, Copy, PartialEq, Eq, PartialOrd, Ord)]
 pub struct Array {
     pub(crate) root: u32,
-    pub(crate) part: usize,
+    pub(crate) row: usize,
 }
 
 impl Part {
+    // What a path leads to, if that is there.
+    fn at(rows: &Rows, path: Path) -> Option<Part> {
+        let named = rows.named(&path)?;
+        Some(Part {
+            path,
+            type_id: named.type_id,
+            first: named.rows.first,
+        })
+    }
+
     /// The way to it.
     pub fn path(&self, memory: &Memory) -> Path {
         let mut steps = memory.none();
@@ -45,32 +56,24 @@ impl Part {
         !steps.any(|step| matches!(step, Step::Element))
     }
 
-    // Its elements or its fields.
-    fn inner(&self, memory: &Memory, types: &TypeTable) -> Vec<Part> {
-        let mut inner = memory.none();
+    /// Whether it is an array.
+    pub(crate) fn is_array(&self, types: &TypeTable, array: Array) -> bool {
+        self.first == array.row && self.is_direct() && types.element(self.type_id).is_some()
+    }
+
+    // The steps to its elements or its fields.
+    fn steps(&self, memory: &Memory, types: &TypeTable) -> Vec<Step> {
+        let mut steps = memory.none();
         match types.form(self.type_id) {
-            Some(TypeForm::Array { element, .. }) => {
-                memory.push(&mut inner, self.part(memory, Step::Element, *element));
-            }
+            Some(TypeForm::Array { .. }) => memory.push(&mut steps, Step::Element),
             Some(TypeForm::Record { fields, .. }) => {
                 for field in fields.iter().take(MOST_PARTS) {
-                    let step = field_step(memory, &field.name);
-                    memory.push(&mut inner, self.part(memory, step, field.type_id));
+                    memory.push(&mut steps, field_step(memory, &field.name));
                 }
             }
             _ => {}
         }
-        inner
-    }
-
-    fn part(&self, memory: &Memory, step: Step, type_id: TypeId) -> Part {
-        let mut path = self.path(memory);
-        memory.push(&mut path.steps, step);
-        Part {
-            path,
-            type_id,
-            inner: usize::MAX,
-        }
+        steps
     }
 }
 
@@ -81,22 +84,17 @@ fn field_step(memory: &Memory, name: &[u8]) -> Step {
 }
 
 /// The parts of each variable, by its root number: first itself, and the parts of each behind it.
-pub(crate) fn all_parts(memory: &Memory, tree: &Tree) -> Vec<Vec<Part>> {
+pub(crate) fn all_parts(memory: &Memory, rows: &Rows) -> Vec<Vec<Part>> {
     let mut all = memory.none();
-    for (root, variable) in tree.variables.iter().enumerate() {
+    for root in 0..rows.variables() {
+        let mut parts = memory.none();
         let path = Path {
             root: number_of(root),
             steps: memory.none(),
         };
-        let whole = Part {
-            path,
-            type_id: variable.type_id,
-            inner: 1,
-        };
-        let mut parts = memory.none();
-        memory.push(&mut parts, whole);
+        add_part(memory, rows, &mut parts, path);
         for place in 0..MOST_PARTS {
-            add_inner(memory, &tree.types, &mut parts, place);
+            add_inner(memory, rows, &mut parts, place);
         }
         memory.push(&mut all, parts);
     }
@@ -104,66 +102,43 @@ pub(crate) fn all_parts(memory: &Memory, tree: &Tree) -> Vec<Vec<Part>> {
 }
 
 // Adds the parts of the part at a place.
-fn add_inner(memory: &Memory, types: &TypeTable, parts: &mut Vec<Part>, place: usize) {
-    let count = parts.len();
-    let Some(part) = parts.get_mut(place) else {
-        return;
+fn add_inner(memory: &Memory, rows: &Rows, parts: &mut Vec<Part>, place: usize) {
+    let mut paths = memory.none();
+    if let Some(part) = parts.get(place) {
+        for step in part.steps(memory, &rows.tree().types) {
+            let mut path = part.path(memory);
+            memory.push(&mut path.steps, step);
+            memory.push(&mut paths, path);
+        }
+    }
+    for path in paths {
+        add_part(memory, rows, parts, path);
+    }
+}
+
+fn add_part(memory: &Memory, rows: &Rows, parts: &mut Vec<Part>, path: Path) {
+    if parts.len() < MOST_PARTS
+        && let Some(part) = Part::at(rows, path)
+    {
+        memory.push(parts, part);
+    }
+}
+
+/// What is accessed by fields and by so many indexes behind them, without these indexes; `None` where the access is
+/// another one.
+pub(crate) fn array_accessed(rows: &Rows, access: &Access, indexes: usize) -> Option<Array> {
+    let fields = access.selectors.len().checked_sub(indexes)?;
+    let mut selectors = access.selectors.iter().enumerate();
+    let goes_on = selectors.all(|(place, selector)| match selector {
+        Selector::Field { .. } => place < fields,
+        Selector::Element { .. } => fields <= place,
+    });
+    let is_direct = match &access.base {
+        Base::Record { path, .. } => path.iter().all(|step| matches!(step, PathStep::Field(_))),
+        Base::Variable => true,
     };
-    part.inner = count;
-    for inner in part.inner(memory, types) {
-        if parts.len() < MOST_PARTS {
-            memory.push(parts, inner);
-        }
-    }
-}
-
-/// The array of which an element is accessed by the last index and no other; `None` where the access is another one.
-pub(crate) fn array_accessed(parts: &[Part], access: &Access) -> Option<Array> {
-    array_before(parts, access, before_element(&access.selectors)?)
-}
-
-/// The array of arrays of which an element is accessed by the last two indexes, one right behind the other, and no
-/// others; `None` likewise.
-pub(crate) fn matrix_accessed(parts: &[Part], access: &Access) -> Option<Array> {
-    let selectors = before_element(&access.selectors)?;
-    array_before(parts, access, before_element(selectors)?)
-}
-
-// What stands before an index that comes last.
-fn before_element(selectors: &[Selector]) -> Option<&[Selector]> {
-    let (last, selectors) = selectors.split_last()?;
-    match last {
-        Selector::Element { .. } => Some(selectors),
-        Selector::Field { .. } => None,
-    }
-}
-
-// The part to which the first selectors of an access lead, all by fields.
-fn array_before(parts: &[Part], access: &Access, selectors: &[Selector]) -> Option<Array> {
-    let mut part = Some(0);
-    if let Base::Record { path, .. } = &access.base {
-        for step in path {
-            part = field_at(parts, part, *step);
-        }
-    }
-    for selector in selectors {
-        let step = match selector {
-            Selector::Element { .. } => PathStep::Element,
-            Selector::Field { position, .. } => PathStep::Field(*position),
-        };
-        part = field_at(parts, part, step);
-    }
-    Some(Array {
+    (goes_on && is_direct).then_some(Array {
         root: access.root,
-        part: part?,
+        row: rows.accessed(access).first,
     })
-}
-
-// The place of a field of the part at a place; none of elements.
-fn field_at(parts: &[Part], part: Option<usize>, step: PathStep) -> Option<usize> {
-    let part = parts.get(part?)?;
-    match step {
-        PathStep::Element => None,
-        PathStep::Field(position) => Some(part.inner.saturating_add(position)),
-    }
 }

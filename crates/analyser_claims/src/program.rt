@@ -1,9 +1,7 @@
-use crate::events::{Event, events_of};
-use crate::lists::{Memory, row};
-use crate::parts::{Part, all_parts};
+use crate::{Event, Memory, Part, all_parts, events_of, row};
 use checker_rows::Rows;
 use std::alloc::Global;
-use typed_tree::tree::Tree;
+use typed_tree::Tree;
 
 /// A program, block by block.
 #[derive(Drop)]
@@ -27,7 +25,7 @@ impl<'p, 't> Program<'p, 't> {
         for block in &tree.blocks {
             memory.push(&mut events, memory.list(events_of(alloc, &block.body)));
         }
-        let parts = all_parts(&memory, tree);
+        let parts = all_parts(&memory, rows);
         Program {
             memory,
             rows,

@@ -1,11 +1,9 @@
 //! What blocks do by their calls, and which blocks call each.
 
-use analyser_claims::Program;
-use analyser_claims::events::Event;
-use analyser_claims::lists::{Memory, number_of, row, settle};
-use checker_calls::visible::is_outward;
+use analyser_claims::{Event, Memory, Program, number_of, row, settle};
+use checker_calls::is_outward;
 use std::mem;
-use typed_tree::tree::Passed;
+use typed_tree::Passed;
 
 /// What is asked of variables.
 #[derive(Clone, Copy)]
@@ -39,14 +37,10 @@ pub(crate) fn all_callers(program: &Program) -> Vec<Vec<u32>> {
 pub(crate) fn spread(program: &Program, callers: &[Vec<u32>], question: Question) -> Vec<Vec<u32>> {
     let memory = &program.memory;
     let mut all = memory.rows(program.events.len());
-    let mut due = memory.none();
-    for number in program.tree.bodies.iter().rev() {
-        memory.push(&mut due, *number);
-    }
-    let mut is_due = memory.none();
-    for _ in &program.events {
-        memory.push(&mut is_due, true);
-    }
+    let mut due = memory.list(Vec::from_slice(memory.alloc, &program.tree.bodies));
+    due.reverse();
+    let is_due = Vec::from_elem(memory.alloc, true, program.events.len());
+    let mut is_due = memory.list(is_due);
     for _ in 0..u64::MAX {
         let Some(number) = due.pop() else {
             break;
@@ -106,16 +100,11 @@ pub(crate) fn add_roots(
 
 /// Whether calls lead from each block back to it.
 pub(crate) fn all_recursive(memory: &Memory, callers: &[Vec<u32>]) -> Vec<bool> {
-    let mut met = memory.none();
+    let mut met = memory.list(Vec::from_elem(memory.alloc, u32::MAX, callers.len()));
     let mut answers = memory.none();
-    for _ in callers {
-        memory.push(&mut met, u32::MAX);
-    }
     for number in 0..callers.len() {
-        memory.push(
-            &mut answers,
-            is_recursive(memory, callers, number_of(number), &mut met),
-        );
+        let answer = is_recursive(memory, callers, number_of(number), &mut met);
+        memory.push(&mut answers, answer);
     }
     answers
 }

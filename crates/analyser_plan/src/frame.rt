@@ -1,15 +1,13 @@
 //! What loops change, which variables may share a place (ISO 7185:1990, 6.6.3.3), and the certificate that lists it.
 
 use crate::calls::{Question, add_roots};
-use analyser_claims::Program;
-use analyser_claims::events::Event;
-use analyser_claims::lists::{Memory, number_of, row, settle};
+use analyser_claims::{Event, Memory, Program, number_of, row, settle};
 use certificate::{AliasPair, Certificate, LoopClaims, Section};
 use checker_calls::overlaps::{is_declared_in, may_overlap};
-use checker_loops::pairs::Pairs;
-use domain::versions::Version;
+use checker_loops::Pairs;
+use domain::Version;
 use std::alloc::AllocError;
-use typed_tree::tree::Passed;
+use typed_tree::Passed;
 
 /// What each loop changes, by what each block does. The root numbers ascend.
 pub(crate) fn loop_changes(program: &Program, changes: &[Vec<u32>]) -> Vec<Vec<u32>> {
@@ -46,10 +44,13 @@ fn close(memory: &Memory, open: &mut Vec<(u32, Vec<u32>)>, found: &mut [Vec<u32>
     }
 }
 
-/// The variables that may share a place, in ascending order. The second is a parameter of the block on which they are
-/// listed, and the first another, or a variable of a block round it.
-pub(crate) fn alias_pairs<'t>(program: &Program<'_, 't>) -> Result<Pairs<'t>, AllocError> {
+/// The variables that may share a place, and the same in ascending order. The second is a parameter of the block on
+/// which they are listed, and the first another, or a variable of a block round it.
+pub(crate) fn alias_pairs<'t>(
+    program: &Program<'_, 't>,
+) -> Result<(Pairs<'t>, Vec<(u32, u32)>), AllocError> {
     let memory = &program.memory;
+    let mut all = memory.none();
     let mut listed = Pairs::of(memory.alloc, program.tree, memory.none())?;
     for _ in 0..u64::MAX {
         let mut has_grown = false;
@@ -64,6 +65,7 @@ pub(crate) fn alias_pairs<'t>(program: &Program<'_, 't>) -> Result<Pairs<'t>, Al
             for (first, second) in found {
                 if !listed.has(first, second) {
                     listed = listed.with(memory.alloc, AliasPair { first, second })?;
+                    memory.push(&mut all, (first, second));
                     has_grown = true;
                 }
             }
@@ -72,34 +74,8 @@ pub(crate) fn alias_pairs<'t>(program: &Program<'_, 't>) -> Result<Pairs<'t>, Al
             break;
         }
     }
-    Ok(listed)
-}
-
-// The pairs that calls make of some.
-fn pairs_made(program: &Program, listed: &Pairs) -> Vec<AliasPair> {
-    let memory = &program.memory;
-    let mut found = memory.none();
-    for (caller, events) in program.events.iter().enumerate() {
-        for event in events {
-            if let Event::Call { call, actuals } = event {
-                add_pairs(
-                    program,
-                    &mut found,
-                    listed,
-                    number_of(caller),
-                    call.block,
-                    actuals,
-                );
-            }
-        }
-    }
-    found.sort_unstable();
-    found.dedup();
-    let mut pairs = memory.none();
-    for (first, second) in found {
-        memory.push(&mut pairs, AliasPair { first, second });
-    }
-    pairs
+    all.sort_unstable();
+    Ok((listed, all))
 }
 
 // Those that a call in one block of another makes.
@@ -141,7 +117,7 @@ fn add_pairs(
 /// pairs.
 pub(crate) fn frame(
     program: &Program,
-    listed: &Pairs,
+    pairs: Vec<(u32, u32)>,
     changes: Vec<Vec<u32>>,
     turns: Vec<Vec<u32>>,
 ) -> Certificate {
@@ -150,11 +126,11 @@ pub(crate) fn frame(
     for (number, changes) in changes.into_iter().enumerate() {
         memory.push(&mut sections, section(memory, number_of(number), changes));
     }
-    for pair in pairs_made(program, listed) {
-        if let Some(variable) = program.tree.variables.get(pair.second as usize)
+    for (first, second) in pairs {
+        if let Some(variable) = program.tree.variables.get(second as usize)
             && let Some(section) = sections.get_mut(variable.block as usize)
         {
-            memory.push(&mut section.aliases, pair);
+            memory.push(&mut section.aliases, AliasPair { first, second });
         }
     }
     for (number, changes) in turns.into_iter().enumerate() {

@@ -8,4 +8,4 @@ mod places;
 mod plan;
 mod steps;
 
-pub use plan::Plan;
+pub use plan::{Course, Plan, Proposed};

@@ -1,39 +1,45 @@
 //! What is proposed where blocks begin and end, and in loops.
 
-use analyser_claims::events::Event;
-use analyser_claims::lists::{row, settle};
-use analyser_claims::{Claim, Program};
+use analyser_claims::{Claim, Event, Program, naming, row, settle};
 use analyser_tables::growth_of;
 use certificate::Fact;
-use checker_calls::visible::{is_outward, is_value_parameter};
-use checker_loops::pairs::Pairs;
-use domain::facts::Spans;
-use domain::interval::Interval;
+use checker_calls::{is_outward, is_value_parameter};
+use checker_loops::Pairs;
+use domain::{Interval, Spans};
 use types::TypeTable;
+
+/// How many claims are proposed at a place at most.
+const MOST_CLAIMS: usize = 1000;
 
 /// What proposals are made of, by block number, and what turns change by loop number.
 #[derive(Clone, Copy)]
 pub(crate) struct Grounds<'g, 'p, 't> {
     pub(crate) program: &'g Program<'p, 't>,
     pub(crate) pairs: &'g Pairs<'t>,
-    pub(crate) claims: &'g [Vec<Claim>],
+    pub(crate) claims: &'g [Vec<(u32, Claim)>],
     pub(crate) mentions: &'g [Vec<u32>],
     pub(crate) changes: &'g [Vec<u32>],
     pub(crate) turns: &'g [Vec<u32>],
 }
 
 impl<'g, 'p, 't> Grounds<'g, 'p, 't> {
-    /// What may hold where a block begins.
+    /// What may hold where a block begins: also that those variables are defined which only claims name.
     pub(crate) fn entry(&self, block: u32) -> Vec<Fact> {
         let mut facts = self.program.memory.none();
         let mentions = row(self.mentions, block);
+        let named = Vec::from_slice(self.program.memory.alloc, mentions);
+        let mut named = self.program.memory.list(named);
         self.add_ranges(mentions, &mut facts);
-        self.add_defined(&self.lasting(block, mentions), &mut facts);
-        for claim in row(self.claims, block) {
-            if claim.is_of_any(mentions) && self.may_stand(block, claim, &[]) {
-                self.add(claim, &mut facts);
+        for claim in self.naming(block, mentions) {
+            if claim.is_of_any(mentions) && self.may_stand(block, &claim, &[]) {
+                self.add(&claim, &mut facts);
+                for root in claim.roots().iter().flatten() {
+                    self.program.memory.push(&mut named, *root);
+                }
             }
         }
+        settle(&mut named);
+        self.add_defined(&self.lasting(block, &named), &mut facts);
         facts
     }
 
@@ -47,9 +53,9 @@ impl<'g, 'p, 't> Grounds<'g, 'p, 't> {
         }
         self.add_ranges(&ranges, &mut facts);
         self.add_defined(&self.lasting(block, row(self.mentions, block)), &mut facts);
-        for claim in row(self.claims, block) {
-            if claim.names_any(changes) && self.may_stand(block, claim, changes) {
-                self.add(claim, &mut facts);
+        for claim in self.naming(block, changes) {
+            if self.may_stand(block, &claim, changes) {
+                self.add(&claim, &mut facts);
             }
         }
         facts
@@ -72,18 +78,17 @@ impl<'g, 'p, 't> Grounds<'g, 'p, 't> {
     // Those of a loop. What a for gives its control variable lies between its bounds, so that gets no range here, which
     // would grow turn by turn and move the ranges of all that is stored.
     fn turn(&self, number: u32) -> Vec<Fact> {
-        let mut facts = self.program.memory.none();
+        let memory = &self.program.memory;
+        let mut facts = memory.none();
         let Some(one) = self.program.tree.loops.get(number as usize) else {
             return facts;
         };
         let changes = row(self.turns, number);
-        let mut touched = self.program.memory.none();
+        let mut touched = memory.none();
         for root in changes {
-            let aliases = self
-                .pairs
-                .aliases_in(self.program.memory.alloc, one.block, *root);
-            for alias in self.program.memory.list(aliases).iter().chain(&[*root]) {
-                self.program.memory.push(&mut touched, *alias);
+            let aliases = self.pairs.aliases_in(memory.alloc, one.block, *root);
+            for alias in memory.list(aliases).iter().chain(&[*root]) {
+                memory.push(&mut touched, *alias);
             }
         }
         settle(&mut touched);
@@ -91,14 +96,23 @@ impl<'g, 'p, 't> Grounds<'g, 'p, 't> {
         if one.control.is_some() {
             self.add_growths(changes, &mut facts);
         }
-        for claim in row(self.claims, one.block) {
+        for claim in self.naming(one.block, changes) {
             let roots = claim.roots();
             let mut named = roots.iter().flatten();
-            if claim.names_any(changes) && !named.any(|root| one.controls.contains(root)) {
-                self.add(claim, &mut facts);
+            if !named.any(|root| one.controls.contains(root)) {
+                self.add(&claim, &mut facts);
             }
         }
         facts
+    }
+
+    // The claims of a block that name one of some variables.
+    fn naming(&self, block: u32, roots: &[u32]) -> Vec<Claim> {
+        let mut claims = naming(&self.program.memory, row(self.claims, block), roots);
+        claims.sort_unstable();
+        claims.dedup();
+        claims.truncate(MOST_CLAIMS);
+        claims
     }
 
     // Those of some variables that no block has by value.
@@ -126,8 +140,7 @@ impl<'g, 'p, 't> Grounds<'g, 'p, 't> {
         for root in roots {
             for part in self.program.parts(*root) {
                 if self.program.tree.types.is_scalar(part.type_id) {
-                    let path = part.path(&self.program.memory);
-                    let range = Interval::EMPTY;
+                    let (path, range) = (part.path(&self.program.memory), Interval::EMPTY);
                     self.program.memory.push(facts, Fact::Range { path, range });
                 }
             }
@@ -149,14 +162,12 @@ impl<'g, 'p, 't> Grounds<'g, 'p, 't> {
 
     // That each part of some variables is defined that has no index.
     fn add_defined(&self, roots: &[u32], facts: &mut Vec<Fact>) {
+        let memory = &self.program.memory;
         for root in roots {
             for part in self.program.parts(*root) {
                 if part.is_direct() {
-                    let path = part.path(&self.program.memory);
-                    let spans = Spans::None;
-                    self.program
-                        .memory
-                        .push(facts, Fact::Defined { path, spans });
+                    let (path, spans) = (part.path(memory), Spans::None);
+                    memory.push(facts, Fact::Defined { path, spans });
                 }
             }
         }

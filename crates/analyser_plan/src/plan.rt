@@ -2,8 +2,7 @@ use crate::calls::{Question, all_callers, all_recursive, spread};
 use crate::frame::{alias_pairs, frame, loop_changes};
 use crate::places::Grounds;
 use crate::steps::add_steps;
-use analyser_claims::Program;
-use analyser_claims::lists::number_of;
+use analyser_claims::{Program, number_of};
 use analyser_tables::Ladders;
 use certificate::{Certificate, Fact};
 use checker_rows::Rows;
@@ -15,12 +14,25 @@ pub struct Plan {
     /// A section for each block, with claims for each loop, by their numbers: the pairs that may share a place, and
     /// what is changed. No facts.
     pub frame: Certificate,
+    pub proposed: Proposed,
+    pub course: Course,
+}
+
+/// Facts, beside the frame.
+#[derive(Drop)]
+pub struct Proposed {
     /// What may hold where each block begins, by its number; nothing for the program's.
     pub entries: Vec<Vec<Fact>>,
     /// What may hold where it ends, likewise.
     pub exits: Vec<Vec<Fact>>,
     /// What may hold whenever a turn of each loop begins, by its number.
     pub loops: Vec<Vec<Fact>>,
+}
+
+/// By what a walk over the program goes that doesn't move.
+#[derive(Drop)]
+pub struct Course {
+    /// Where the ends of ranges stop that move.
     pub ladders: Ladders,
     /// The blocks that call each, ascending, by its number.
     pub callers: Vec<Vec<u32>>,
@@ -39,7 +51,7 @@ impl Plan {
         let changes = spread(&program, &callers, Question::Changed);
         let mentions = spread(&program, &callers, Question::Mentioned);
         let turns = loop_changes(&program, &changes);
-        let pairs = alias_pairs(&program)?;
+        let (pairs, listed) = alias_pairs(&program)?;
         let claims = program.all_claims(&mentions);
         let grounds = Grounds {
             program: &program,
@@ -49,30 +61,31 @@ impl Plan {
             changes: &changes,
             turns: &turns,
         };
-        let (mut entries, mut exits) = (program.memory.rows(1), program.memory.rows(1));
+        let memory = &program.memory;
+        let (mut entries, mut exits) = (memory.rows(1), memory.rows(1));
         for block in 1..program.events.len() {
-            program
-                .memory
-                .push(&mut entries, grounds.entry(number_of(block)));
-            program
-                .memory
-                .push(&mut exits, grounds.exit(number_of(block)));
+            memory.push(&mut entries, grounds.entry(number_of(block)));
+            memory.push(&mut exits, grounds.exit(number_of(block)));
         }
         let loops = grounds.all_turns();
         let mut ladders = Ladders::new(alloc, rows.count())?;
         add_steps(&program, &mut ladders);
         ladders.finish()?;
         let is_recursive = all_recursive(&program.memory, &callers);
-        let frame = frame(&program, &pairs, changes, turns);
+        let frame = frame(&program, listed, changes, turns);
         program.memory.finish()?;
         Ok(Plan {
             frame,
-            entries,
-            exits,
-            loops,
-            ladders,
-            callers,
-            is_recursive,
+            proposed: Proposed {
+                entries,
+                exits,
+                loops,
+            },
+            course: Course {
+                ladders,
+                callers,
+                is_recursive,
+            },
         })
     }
 }

@@ -1,11 +1,10 @@
 //! The steps at which ranges stop: the constants that variables meet.
 
-use analyser_claims::Program;
-use analyser_claims::events::Event;
+use analyser_claims::{Event, Program};
 use analyser_tables::Ladders;
 use checker_rows::{Rows, Span};
 use checker_state::bound_form;
-use typed_tree::tree::{Dyadic, Expr, Link, Passed, RangeTest, Selector, Whole};
+use typed_tree::{Dyadic, Expr, Link, Passed, RangeTest, Selector, Whole};
 use types::OrdinalRange;
 
 /// What is known of a value by its spelling: a constant, or what a row holds plus a number.
@@ -47,12 +46,8 @@ fn add_step(program: &Program, event: &Event, ladders: &mut Ladders) {
             pass(program, target, &assignment.value, assignment.fits, ladders);
         }
         Event::Copy(copying) => {
-            join_whole(
-                rows,
-                rows.accessed(&copying.target),
-                &copying.value,
-                ladders,
-            );
+            let target = rows.accessed(&copying.target);
+            join_whole(rows, target, &copying.value, ladders);
         }
         Event::Call { call, actuals } => {
             for (formal, actual) in program.parameters(call.block).iter().zip(actuals.iter()) {
@@ -69,14 +64,9 @@ fn add_step(program: &Program, event: &Event, ladders: &mut Ladders) {
             ..
         } => {
             let control = rows.of_variable(head.control);
-            pass(
-                program,
-                control,
-                &head.first.value,
-                head.first.fits,
-                ladders,
-            );
-            pass(program, control, &head.last.value, head.last.fits, ladders);
+            for bound in [&head.first, &head.last] {
+                pass(program, control, &bound.value, bound.fits, ladders);
+            }
         }
         _ => {}
     }
@@ -112,9 +102,9 @@ fn test(rows: &Rows, value: &Expr, range: OrdinalRange, ladders: &mut Ladders) {
 fn meet(rows: &Rows, value: &Expr, other: &Expr, ladders: &mut Ladders) {
     match spelled(rows, other) {
         Some(Spelling::Constant(constant)) => {
-            step(rows, value, constant.saturating_sub(1), ladders);
-            step(rows, value, constant, ladders);
-            step(rows, value, constant.saturating_add(1), ladders);
+            for by in [-1, 0, 1] {
+                step(rows, value, constant.saturating_add(by), ladders);
+            }
         }
         Some(Spelling::Moved(row, _)) => join(rows, row, value, ladders),
         None => {}

@@ -1,12 +1,9 @@
 use certificate::Fact;
-use checker_calls::actuals::{Bearers, Bindings, bearers_named};
-use checker_calls::entry::are_given;
-use checker_loops::claims::{gives_facts, rows_named};
+use checker_calls::{Bearers, Bindings, are_given, bearers_named};
+use checker_loops::{gives_facts, rows_named};
 use checker_rows::Span;
 use checker_trail::State;
-use domain::Domain;
-use domain::facts::Path;
-use domain::interval::Interval;
+use domain::{Domain, Interval, Path};
 use std::slice;
 
 /// What comes to a place of facts, at a point that runs may come to.

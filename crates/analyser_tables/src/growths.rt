@@ -3,9 +3,7 @@
 use crate::outcome::Outcome;
 use certificate::Fact;
 use checker_rows::Rows;
-use domain::Domain;
-use domain::growth::Growth;
-use domain::interval::Interval;
+use domain::{Domain, Growth, Interval};
 
 /// How often what turns add moves, before a growth falls.
 const MOST_MOVES: u8 = 11;
@@ -47,7 +45,7 @@ pub(crate) fn begin(growth: &mut Growth, came: Interval) -> Outcome {
     if came.leq(&known) {
         return Outcome::Stays;
     }
-    moved(set_begun(growth, known.join(&came)))
+    moved(set(&mut growth.first, &mut growth.last, known.join(&came)))
 }
 
 /// A turn ends. What the first one adds that adds anything is what all are taken to add, up to the next that adds more.
@@ -68,7 +66,11 @@ pub(crate) fn turn(growth: &mut Growth, moves: &mut u8, turned: Option<Growth>) 
         return fallen(*moves);
     }
     *moves = moves.saturating_add(1);
-    moved(set_steps(growth, known.join(&added)))
+    moved(set(
+        &mut growth.first_step,
+        &mut growth.last_step,
+        known.join(&added),
+    ))
 }
 
 // A growth that never moved says what the range of its variable does, which comes from outside.
@@ -88,28 +90,14 @@ fn moved(is_set: bool) -> Outcome {
     }
 }
 
-/// It begins in a range, if that has the numbers of a growth. Whether it has.
-pub(crate) fn set_begun(growth: &mut Growth, range: Interval) -> bool {
-    match ends(range) {
-        None => false,
-        Some((first, last)) => {
-            growth.first = first;
-            growth.last = last;
-            true
-        }
-    }
-}
-
-/// Turns add a number of a range, if that has the numbers of a growth. Whether it has.
-pub(crate) fn set_steps(growth: &mut Growth, range: Interval) -> bool {
-    match ends(range) {
-        None => false,
-        Some((first, last)) => {
-            growth.first_step = first;
-            growth.last_step = last;
-            true
-        }
-    }
+/// Two numbers of a growth are the ends of a range from here on, if that has such. Whether it has.
+pub(crate) fn set(first: &mut i32, last: &mut i32, range: Interval) -> bool {
+    let Some((one, other)) = ends(range) else {
+        return false;
+    };
+    *first = one;
+    *last = other;
+    true
 }
 
 // The ends of a range of integers that isn't empty.

@@ -1,4 +1,4 @@
-use domain::interval::Interval;
+use domain::Interval;
 use std::alloc::{AllocError, Global};
 
 /// Steps at which range ends stop that still move: for each row those of the rows that it shares them with.

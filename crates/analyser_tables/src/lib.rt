@@ -10,4 +10,4 @@ mod table;
 pub use coming::Coming;
 pub use growths::growth_of;
 pub use ladder::Ladders;
-pub use table::Table;
+pub use table::{Pace, Table};

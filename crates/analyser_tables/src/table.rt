@@ -1,15 +1,11 @@
-use crate::coming::Coming;
-use crate::growths::{added, begin, begun, set_begun, set_steps, settle, steps, take_out, turn};
-use crate::ladder::Ladders;
+use crate::growths::{added, begin, begun, set, settle, steps, take_out, turn};
 use crate::outcome::Outcome;
+use crate::{Coming, Ladders};
 use certificate::Fact;
-use checker_loops::claims::rows_named;
+use checker_loops::rows_named;
 use checker_rows::Rows;
 use checker_state::Growing;
-use domain::Domain;
-use domain::facts::Path;
-use domain::growth::Growth;
-use domain::interval::Interval;
+use domain::{Domain, Growth, Interval, Path};
 use std::alloc::{AllocError, Global};
 use std::mem;
 
@@ -19,11 +15,14 @@ const FREE_MOVES: u8 = 3;
 /// How often it moves to steps of a ladder behind that. Then it goes to the last number that it may be.
 const LADDER_MOVES: u8 = 8;
 
-/// The numbers that are tried of an order, from the least on: that a variable is less than another, at most that, or at
-/// most one more.
-const LEAST_NUMBER: i32 = -1;
+/// How often the number of an order goes to the least that is given. Then it skips those that are less than -1.
+const ORDER_MOVES: u8 = 3;
 
+/// The greatest number that is tried of an order: that a variable is at most one more than another.
 const GREATEST_NUMBER: i32 = 1;
+
+/// How many numbers are tried at most.
+const NUMBERS: u32 = 64;
 
 /// What is known so far of a place of facts, beside the facts themselves. These move one way, but for narrowing: ranges
 /// go up from the empty one, as growths do, the numbers of orders rise, and claims fall.
@@ -49,12 +48,16 @@ struct Beside {
     steps: Interval,
 }
 
-/// What decides how far the ends of ranges move.
+/// How what comes moves what is known.
 #[derive(Clone, Copy)]
-struct Pace<'p, 'a> {
-    rows: &'p Rows<'a>,
-    ladders: &'p Ladders,
-    counts: bool,
+pub struct Pace<'p, 'a> {
+    pub rows: &'p Rows<'a>,
+    /// Where the ends of ranges stop that move.
+    pub ladders: &'p Ladders,
+    /// Whether what comes is only collected, and nothing moves.
+    pub narrows: bool,
+    /// Whether moves count, others are free: at the head of a loop those don't that come from outside.
+    pub counts: bool,
 }
 
 impl Table {
@@ -76,22 +79,16 @@ impl Table {
         })
     }
 
-    /// A state comes to the place: ranges are widened, and what it doesn't give falls and is taken out, as is a range
-    /// of all values. Whether anything moved, as the first state does. Moves that don't count are free; at the head of
-    /// a loop those don't that come from outside.
-    pub fn arrive(
-        &mut self,
-        facts: &mut Vec<Fact>,
-        coming: &Coming,
-        rows: &Rows,
-        ladders: &Ladders,
-        counts: bool,
-    ) -> bool {
-        let pace = Pace {
-            rows,
-            ladders,
-            counts,
-        };
+    /// A state comes to the place: ranges are widened, and what it doesn't give falls and is taken out. Whether
+    /// anything moved, as the first state does. A state to which no run comes moves nothing.
+    pub fn arrive(&mut self, facts: &mut Vec<Fact>, coming: &Coming, pace: Pace) -> bool {
+        if coming.state().is_dead() {
+            return false;
+        }
+        if pace.narrows {
+            self.collect(facts, coming, pace.counts);
+            return false;
+        }
         let mut has_moved = !self.is_reached;
         self.is_reached = true;
         for place in (0..facts.len()).rev() {
@@ -112,8 +109,8 @@ impl Table {
         has_moved
     }
 
-    /// A state comes in a round that narrows: nothing moves yet.
-    pub fn collect(&mut self, facts: &[Fact], coming: &Coming, counts: bool) {
+    // A state comes in a round that narrows: nothing moves yet.
+    fn collect(&mut self, facts: &[Fact], coming: &Coming, counts: bool) {
         for (place, beside) in self.beside.iter_mut().enumerate() {
             match facts.get(place) {
                 Some(Fact::Range { path, .. }) => beside.come(coming.range(path)),
@@ -161,8 +158,10 @@ impl Beside {
     // Meets where a growth begins and what turns add with what was collected. Whether anything moved.
     fn narrow(&mut self, growth: &mut Growth) -> bool {
         let (mut begun, mut steps) = (begun(growth), steps(growth));
-        let begins = narrowed(&mut begun, &mut self.collected) && set_begun(growth, begun);
-        let turns = narrowed(&mut steps, &mut self.steps) && set_steps(growth, steps);
+        let begins = narrowed(&mut begun, &mut self.collected)
+            && set(&mut growth.first, &mut growth.last, begun);
+        let turns = narrowed(&mut steps, &mut self.steps)
+            && set(&mut growth.first_step, &mut growth.last_step, steps);
         begins || turns
     }
 }
@@ -183,10 +182,17 @@ impl<'p, 'a> Pace<'p, 'a> {
         match fact {
             Fact::Range { path, range } => {
                 let row = rows_named(self.rows, path).first;
+                if self.rows.row_limits(row).leq(range) {
+                    return Outcome::Stays;
+                }
                 let leads = self.leads(row, path, coming);
                 self.widen(row, range, coming.range(path), leads, beside)
             }
-            Fact::Defined { .. } | Fact::Order { .. } => claimed(fact, coming),
+            Fact::Defined { .. } | Fact::Order { .. } => claimed(
+                fact,
+                &mut beside.first_moves,
+                coming,
+            ),
             Fact::Grows { root, growth } if self.counts => {
                 let turned = coming.state().growth(*root);
                 let turned = turned.map(|growing| growing.growth);
@@ -211,7 +217,7 @@ impl<'p, 'a> Pace<'p, 'a> {
         }
     }
 
-    // Widens a range of a row by what comes, which may lead so far. It falls, once all values lie in it.
+    // Widens a range of a row by what comes, which may lead so far. One of all values stays: it may get narrower.
     fn widen(
         &self,
         row: usize,
@@ -230,11 +236,7 @@ impl<'p, 'a> Pace<'p, 'a> {
         } else {
             self.widened(row, *range, came, leads, beside)
         };
-        if limits.leq(range) {
-            Outcome::Falls
-        } else {
-            Outcome::Moves
-        }
+        Outcome::Moves
     }
 
     // A range of a row with what comes, neither of which is empty, and so far beyond that as its ends move.
@@ -279,23 +281,25 @@ impl<'p, 'a> Pace<'p, 'a> {
 }
 
 // What becomes of a claim. The number of an order that isn't given rises until it is.
-fn claimed(fact: &mut Fact, coming: &Coming) -> Outcome {
+fn claimed(fact: &mut Fact, moves: &mut u8, coming: &Coming) -> Outcome {
     if coming.gives(fact) {
         return Outcome::Stays;
     }
-    for _ in LEAST_NUMBER..GREATEST_NUMBER {
-        if rises(fact) && coming.gives(fact) {
+    let least = if *moves < ORDER_MOVES { i32::MIN } else { -1 };
+    *moves = moves.saturating_add(1);
+    for _ in 0..NUMBERS {
+        if rises(fact, least) && coming.gives(fact) {
             return Outcome::Moves;
         }
     }
     Outcome::Falls
 }
 
-// Raises the number of an order by one, up to the greatest; whether it did.
-fn rises(fact: &mut Fact) -> bool {
+// Raises the number of an order by one, or to the least that is tried, up to the greatest; whether it did.
+fn rises(fact: &mut Fact, least: i32) -> bool {
     match fact {
         Fact::Order { number, .. } if *number < GREATEST_NUMBER => {
-            *number += 1;
+            *number = (*number + 1).max(least);
             true
         }
         _ => false,

@@ -1,18 +1,16 @@
 //! Ladders, and what becomes of the facts of a place where states come to it.
 
-use analyser_tables::{Coming, Ladders, Table, growth_of};
+use analyser_tables::{Coming, Ladders, Pace, Table, growth_of};
 use certificate::Fact;
-use checker_calls::actuals::{Actual, Bindings};
+use checker_calls::{Actual, Bindings};
 use checker_rows::Rows;
-use checker_state::{Growing, Order};
+use checker_state::Growing;
 use checker_trail::State;
-use domain::facts::{Path, Spans};
-use domain::interval::Interval;
-use domain::versions::Version;
+use domain::{Interval, Path, Spans, Version};
 use std::alloc::{AllocError, Global};
 use std::test::Fail;
 use test_words::rows::all_hold;
-use typed_tree::tree::{Tree, Variable, VariableKind};
+use typed_tree::{Tree, Variable, VariableKind};
 use types::{TypeId, TypeTable};
 
 /// A variable of a program's own.
@@ -56,13 +54,13 @@ fn defined(alloc: Global, root: u32) -> Fact {
     }
 }
 
-/// What a place claims: of a variable that it has a value, or its range; or how variable 0 stands to variable 1, or how
-/// it grows.
+/// What a place claims: of a variable that it has a value, or its range; or how variable 0 stands to variable 1, from a
+/// number on, or how it grows.
 #[derive(Clone, Copy)]
 enum Claim {
     Value(u32),
     Range(u32),
-    Order,
+    Order(i32),
     Growth,
 }
 
@@ -73,10 +71,10 @@ fn fact_of(alloc: Global, claim: Claim) -> Fact {
             path: path(alloc, root),
             range: Interval::EMPTY,
         },
-        Claim::Order => Fact::Order {
+        Claim::Order(number) => Fact::Order {
             root: 0,
             other: 1,
-            number: -1,
+            number,
         },
         Claim::Growth => growth_of(0),
     }
@@ -134,7 +132,7 @@ enum Event {
     Settles,
 }
 
-use Claim::{Growth, Range, Value};
+use Claim::{Growth, Order, Range, Value};
 use Event::*;
 
 /// What a place claims, the steps of the ladder of variable 0, and what happens there.
@@ -162,33 +160,19 @@ struct Place {
 
 impl Place {
     /// A state comes. Answers a sign of whether it moved a fact.
-    fn meet(
-        &mut self,
-        state: &State,
-        rows: &Rows,
-        ladders: &Ladders,
-        counts: bool,
-    ) -> &'static str {
+    fn meet(&mut self, state: &State, pace: Pace) -> &'static str {
         let coming = Coming::here(state);
-        sign(
-            self.table
-                .arrive(&mut self.facts, &coming, rows, ladders, counts),
-        )
+        sign(self.table.arrive(&mut self.facts, &coming, pace))
     }
 
     /// An event. Answers its sign, if it has one.
-    fn happen(
-        &mut self,
-        event: Event,
-        state: &mut State,
-        rows: &Rows,
-        ladders: &Ladders,
-    ) -> &'static str {
+    fn happen(&mut self, event: Event, state: &mut State, pace: Pace) -> &'static str {
         match event {
             Values(root, values) | Uncounted(root, values) => {
+                let counts = matches!(event, Values(..));
                 for value in values {
                     state.set_range(root as usize, Interval::between(*value, *value));
-                    self.meet(state, rows, ladders, matches!(event, Values(..)));
+                    self.meet(state, Pace { counts, ..pace });
                 }
             }
             AtMost(numbers) => {
@@ -196,8 +180,8 @@ impl Place {
                     let mark = state.mark();
                     state.define(0);
                     state.define(1);
-                    state.order(Order::new(0, 1, i64::from(*number)));
-                    self.meet(state, rows, ladders, true);
+                    state.order(checker_state::Order::new(0, 1, i64::from(*number)));
+                    self.meet(state, pace);
                     let _end = state.leave(mark);
                 }
             }
@@ -209,26 +193,34 @@ impl Place {
                 for step in steps {
                     let mark = state.mark();
                     self.turn(state, *step);
-                    self.meet(state, rows, ladders, true);
+                    self.meet(state, pace);
                     let _end = state.leave(mark);
                 }
             }
-            Comes => return self.meet(state, rows, ladders, true),
+            Comes => return self.meet(state, pace),
             Collects | CollectsUncounted => {
                 let counts = matches!(event, Collects);
-                self.table
-                    .collect(&self.facts, &Coming::here(state), counts);
+                let narrows = true;
+                self.meet(
+                    state,
+                    Pace {
+                        counts,
+                        narrows,
+                        ..pace
+                    },
+                );
             }
             CollectsTurn(least, greatest) => {
                 let mark = state.mark();
                 self.turn(state, (least, greatest));
-                self.table.collect(&self.facts, &Coming::here(state), true);
+                let narrows = true;
+                self.meet(state, Pace { narrows, ..pace });
                 let _end = state.leave(mark);
             }
             Narrows => return sign(self.table.narrow(&mut self.facts)),
             Settles => {
                 self.table.most = MOST;
-                self.table.settle(&mut self.facts, rows);
+                self.table.settle(&mut self.facts, pace.rows);
             }
         }
         ""
@@ -274,8 +266,14 @@ fn row_told(alloc: Global, row: &Row) -> Result<String, AllocError> {
     };
     let mut state = State::of_types(alloc, Version::Two, &rows);
     let mut told = String::new(alloc);
+    let pace = Pace {
+        rows: &rows,
+        ladders: &ladders,
+        narrows: false,
+        counts: true,
+    };
     for event in events {
-        told.push_str(place.happen(*event, &mut state, &rows, &ladders))?;
+        told.push_str(place.happen(*event, &mut state, pace))?;
     }
     for fact in &place.facts {
         told.push_str(fact_told(alloc, fact)?.as_str())?;
@@ -283,8 +281,8 @@ fn row_told(alloc: Global, row: &Row) -> Result<String, AllocError> {
     Ok(told)
 }
 
-/// A range falls that has all values of its type.
-static PLACES: [(Row, &str); 38] = [
+/// A range that has all values of its type stays, and may get narrower.
+static PLACES: [(Row, &str); 41] = [
     // The first state; three moves are free, and two that don't count.
     ((&[Range(0)], &[], &[Values(0, &[5])]), " 5..5"),
     ((&[Range(0)], &[10], &[Values(0, &[0, 1, 2, 3])]), " 0..3"),
@@ -361,16 +359,19 @@ static PLACES: [(Row, &str); 38] = [
             &[],
             &[Values(0, &[0, 1, 2, 3, 4, -1, -2, -3, -4])],
         ),
-        "",
+        " -2147483647..2147483647",
     ),
     ((&[Range(2)], &[], &[Values(2, &[1])]), " 1..1"),
-    ((&[Range(2)], &[], &[Values(2, &[1, 0])]), ""),
+    ((&[Range(2)], &[], &[Values(2, &[1, 0])]), " 0..1"),
     // The number of an order grows, but not far.
-    ((&[Claim::Order], &[], &[AtMost(&[-1, -2])]), " -1"),
-    ((&[Claim::Order], &[], &[AtMost(&[-1, 0])]), " 0"),
-    ((&[Claim::Order], &[], &[AtMost(&[1, -1])]), " 1"),
-    ((&[Claim::Order], &[], &[AtMost(&[-1, 0, 1])]), " 1"),
-    ((&[Claim::Order], &[], &[AtMost(&[0, 2])]), ""),
+    ((&[Order(-1)], &[], &[AtMost(&[-1, -2])]), " -1"),
+    ((&[Order(-1)], &[], &[AtMost(&[-1, 0])]), " 0"),
+    ((&[Order(-1)], &[], &[AtMost(&[1, -1])]), " 1"),
+    ((&[Order(-1)], &[], &[AtMost(&[-1, 0, 1])]), " 1"),
+    ((&[Order(-1)], &[], &[AtMost(&[0, 2])]), ""),
+    // From further below it goes three times to what comes, and then no lower than -1.
+    ((&[Order(-9)], &[], &[AtMost(&[-5, -6, -4])]), " -4"),
+    ((&[Order(-9)], &[], &[AtMost(&[-6, -5, -4, -3])]), " -1"),
     // What a state doesn't give falls, and the same state moves nothing.
     (
         (
@@ -396,6 +397,21 @@ static PLACES: [(Row, &str); 38] = [
             ],
         ),
         "++- 2..100",
+    ),
+    (
+        (
+            &[Range(0)],
+            &[],
+            &[
+                Between(0, -2147483647, 2147483647),
+                Comes,
+                Comes,
+                Between(0, 2, 9),
+                Collects,
+                Narrows,
+            ],
+        ),
+        "+-+ 2..9",
     ),
     // A growth begins with what comes from outside, and turns add to that.
     ((&[Growth], &[], &[Uncounted(0, &[5, 3, 9])]), " 3+0..9+0"),

@@ -30,7 +30,7 @@ use Rattle.checker_expressions.specs.Walk.{Walking, ◌>>=◌, access_walk, chan
 use Rattle.checker_calls.proofs.Origins.{root_is}
 use Rattle.checker_expressions.proofs.Counted.{counted-both}
 use Rattle.cert_checker.specs.declared.walk.Walk.{Walk}
-use Rattle.cert_checker.specs.View.{Goes, at_state, context_of, row_stored}
+use Rattle.cert_checker.specs.View.{WalkGoes, at_state, context_of, row_stored}
 use Rattle.checker_expressions.specs.declared.noting.Noted.{Noted}
 use Rattle.checker_expressions.specs.Walk.{Valued, noting_walk}
 use Rattle.domain.specs.Versions.{has}
@@ -47,7 +47,7 @@ module _ {old : Walk} {state : Kept} (root : ℕ) (aliases : List ℕ) (aliases_
   pub stored-goes : (reach : Reach) (stores : Stores)
       → Moves (λ known. all_stored (reach_unless_alias aliases reach) stores
       (with_aliases_stored old.flow.state.table.now aliases (map (row_stored old.flow.state.table.now) stores) known)) old.flow.state state
-      → Goes (stores_made root reach stores) old (at_state state old) tt
+      → WalkGoes (stores_made root reach stores) old (at_state state old) tt
   stored-goes reach stores moves =
       let tree = old.flow.state.table.now in
       let step : List ℕ → State → State =
@@ -59,7 +59,7 @@ module _ {old : Walk} {state : Kept} (root : ℕ) (aliases : List ℕ) (aliases_
   pub assigned-goes : (range : Interval) (form : Option Bound) (step : Option Interval)
       → Moves (λ known. assigned root range (unless_alias aliases form) step
       (with_aliases_stored old.flow.state.table.now aliases (row_stored old.flow.state.table.now (root, range) ∷ []) known)) old.flow.state state
-      → Goes (assign root form step range) old (at_state state old) tt
+      → WalkGoes (assign root form step range) old (at_state state old) tt
   assigned-goes range form by_step moves =
       let tree = old.flow.state.table.now in
       let step : List ℕ → State → State =
@@ -70,13 +70,14 @@ module _ {old : Walk} {state : Kept} (root : ℕ) (aliases : List ℕ) (aliases_
 -- ---- stores at a place
 
 module _ (place : SourcePlace) (root : ℕ) {old mid new : Walk} where
-  pub store-goes : (reach : Reach) (stores : Stores) → Goes (change place root) old mid tt → Goes (stores_made root reach stores) mid new tt
-      → Goes (store_to place root reach stores) old new tt
+  pub store-goes : (reach : Reach) (stores : Stores) → WalkGoes (change place root) old mid tt → WalkGoes (stores_made root reach stores) mid new tt
+      → WalkGoes (store_to place root reach stores) old new tt
   store-goes reach stores one two = goes-then (change place root) (λ _. stores_made root reach stores) one two
 
 -- one of two walks
-either-goes : (test : Bool) (one other : Walking (Unit {0})) {old new : Walk} → (test ≡ true → Goes one old new tt) → (test ≡ false → Goes other old new tt)
-    → Goes (cond test one other) old new tt
+either-goes : (test : Bool) (one other : Walking (Unit {0})) {old new : Walk} → (test ≡ true → WalkGoes one old new tt) →
+    (test ≡ false → WalkGoes other old new tt)
+    → WalkGoes (cond test one other) old new tt
 either-goes true one other first second = first refl
 either-goes false one other first second = second refl
 
@@ -88,13 +89,13 @@ module _ (place : SourcePlace) (access : Access) (reach : Reach) where
   selectors = access.selectors.items
 
   -- the access has its root, wherever it begins
-  at-root : (walk : ℕ → Walking (Unit {0})) {old new : Walk} → Goes (walk access.root) old new tt → Goes (walk (root_of origin)) old new tt
-  at-root walk {old = old} {new = new} one = subst (λ (r : ℕ). Goes (walk r) old new tt) (sym (root_is access)) one
+  at-root : (walk : ℕ → Walking (Unit {0})) {old new : Walk} → WalkGoes (walk access.root) old new tt → WalkGoes (walk (root_of origin)) old new tt
+  at-root walk {old = old} {new = new} one = subst (λ (r : ℕ). WalkGoes (walk r) old new tt) (sym (root_is access)) one
 
   -- a variable as a whole gets the value
   pub entire-goes : {old mid new : Walk} (form : Option Bound) (step : Option Interval) (range : Interval) → is_whole_variable origin selectors ≡ true
-      → Goes (change place access.root) old mid tt → Goes (assign access.root form step range) mid new tt
-      → Goes (assign_to place origin selectors reach form step range) old new tt
+      → WalkGoes (change place access.root) old mid tt → WalkGoes (assign access.root form step range) mid new tt
+      → WalkGoes (assign_to place origin selectors reach form step range) old new tt
   entire-goes {old = old} {new = new} form step range is one two =
       either-goes (is_whole_variable origin selectors) (assign_entire place (root_of origin) form step range)
       (assign_component place origin selectors reach range)
@@ -103,7 +104,7 @@ module _ (place : SourcePlace) (access : Access) (reach : Reach) where
       (λ so. absurd (false≢true (sym so ∙ is)))
 
   pub component-goes : {old new : Walk} (form : Option Bound) (step : Option Interval) (range : Interval) → is_whole_variable origin selectors ≡ false
-      → Goes (assign_component place origin selectors reach range) old new tt → Goes (assign_to place origin selectors reach form step range) old new tt
+      → WalkGoes (assign_component place origin selectors reach range) old new tt → WalkGoes (assign_to place origin selectors reach form step range) old new tt
   component-goes {old = old} {new = new} form step range is one =
       either-goes (is_whole_variable origin selectors) (assign_entire place (root_of origin) form step range)
       (assign_component place origin selectors reach range)
@@ -115,16 +116,16 @@ module _ (place : SourcePlace) (access : Access) (reach : Reach) where
     rows-here = rows_are ∙ ap (λ (t : Tree). rows_accessed t origin selectors) tree_is
 
     -- a value is stored to the rows that are accessed
-    pub alike-goes : {new : Walk} (range : Interval) → Goes (store_to place access.root reach (alike range rows)) old new tt
-        → Goes (assign_component place origin selectors reach range) old new tt
+    pub alike-goes : {new : Walk} (range : Interval) → WalkGoes (store_to place access.root reach (alike range rows)) old new tt
+        → WalkGoes (assign_component place origin selectors reach range) old new tt
     alike-goes range one =
         goes-here (store_to place (root_of origin) reach (alike range rows)) (assign_component place origin selectors reach range)
         (ap (λ (r : List ℕ). store_to place (root_of origin) reach (alike range r) (context_of old) (state_of old.flow)) rows-here)
         (at-root (λ (r : ℕ). store_to place r reach (alike range rows)) one)
 
     -- so are the components of a whole value
-    pub paired-goes : {new : Walk} (ranges : List Interval) → Goes (store_to place access.root reach (paired rows ranges)) old new tt
-        → Goes (copy_to place origin selectors reach ranges) old new tt
+    pub paired-goes : {new : Walk} (ranges : List Interval) → WalkGoes (store_to place access.root reach (paired rows ranges)) old new tt
+        → WalkGoes (copy_to place origin selectors reach ranges) old new tt
     paired-goes ranges one =
         goes-here (store_to place (root_of origin) reach (paired rows ranges)) (copy_to place origin selectors reach ranges)
         (ap (λ (r : List ℕ). store_to place (root_of origin) reach (paired r ranges) (context_of old) (state_of old.flow)) rows-here)
@@ -134,8 +135,8 @@ module _ (place : SourcePlace) (access : Access) (reach : Reach) where
 pub value-goes : (assignment : Assignment) (reach : Reach) (notes : List Noted) (passed : Known) (tree : Tree) (form : Option Bound) (step : Option Interval)
     (range : Interval) {old new : Walk} → tree ≡ old.flow.state.table.now → form ≡ bound_form (is_ordinal_variable tree) assignment.value
     → step ≡ value_step tree (root_of (origin_of assignment.target)) assignment.value notes → range ≡ known_range passed
-    → Goes (assign_to assignment.becomes (origin_of assignment.target) assignment.target.selectors.items reach form step range) old new tt
-    → Goes (assign_value assignment reach notes passed) old new tt
+    → WalkGoes (assign_to assignment.becomes (origin_of assignment.target) assignment.target.selectors.items reach form step range) old new tt
+    → WalkGoes (assign_value assignment reach notes passed) old new tt
 value-goes assignment reach notes passed tree form step range {old = old} tree_is form_is step_is range_is one =
     let root = root_of (origin_of assignment.target) in
     let stores = λ (f : Option Bound) (s : Option Interval) (r : Interval).
@@ -152,7 +153,8 @@ pub read-goes : (name place : SourcePlace) (one : ReadVariable) (tree : Tree) (s
     {old new : Walk}
     → tree ≡ old.flow.state.table.now → place ≡ point_place tree one.point name → selectors ≡ one.access.selectors.items
     → held ≡ reach_stored selectors false reach → range ≡ limits_of one.range
-    → Goes (assign_to place (origin_of one.access) one.access.selectors.items held None None range) old new tt → Goes (read_value name one reach) old new tt
+    → WalkGoes (assign_to place (origin_of one.access) one.access.selectors.items held None None range) old new tt → WalkGoes (read_value name one reach) old
+    new tt
 read-goes name place one tree selectors reach held range {old = old} tree_is place_is selectors_are held_is range_is stores =
     let own = one.access.selectors.items in
     let before = old.flow.state.table.now in
@@ -167,15 +169,15 @@ read-goes name place one tree selectors reach held range {old = old} tree_is pla
 -- ---- values that are assigned
 
 -- where certificates tell how variables grow
-pub noting-goes : (e : Expr) (told : Valued) {old new : Walk} → has (context_of old).version Growths ≡ true → Goes (noting_walk [] e) old new told
-    → Goes (assigned_walk e) old new told
+pub noting-goes : (e : Expr) (told : Valued) {old new : Walk} → has (context_of old).version Growths ≡ true → WalkGoes (noting_walk [] e) old new told
+    → WalkGoes (assigned_walk e) old new told
 noting-goes e told {old = old} is one =
     goes-here (noting_walk [] e) (assigned_walk e)
     (ap (λ (b : Bool). cond b (noting_walk [] e (context_of old)) (unnoted_walk e (context_of old)) (state_of old.flow)) (sym is)) one
 
 -- where they don't
-pub unnoted-goes : (e : Expr) (known : Known) {old new : Walk} → has (context_of old).version Growths ≡ false → Goes (value_walk e) old new known
-    → Goes (assigned_walk e) old new (record { known = known; noted = [] })
+pub unnoted-goes : (e : Expr) (known : Known) {old new : Walk} → has (context_of old).version Growths ≡ false → WalkGoes (value_walk e) old new known
+    → WalkGoes (assigned_walk e) old new (record { known = known; noted = [] })
 unnoted-goes e known {old = old} {new = new} is one =
     goes-here (unnoted_walk e) (assigned_walk e)
     (ap (λ (b : Bool). cond b (noting_walk [] e (context_of old)) (unnoted_walk e (context_of old)) (state_of old.flow)) (sym is))
@@ -205,11 +207,11 @@ unnoted-goes e known {old = old} {new = new} is one =
 -- an assignment, with its index expressions and its selectors as the checker has them
 pub assignment-goes : (assignment : Assignment) (indexes : List Expr) (selectors : List Selector) (reach held : Reach) (told : Valued) (passed : Known)
     {old reached valued tested new : Walk}
-    → indexes ≡ assignment.indexes.items → Goes (access_walk assignment.target (index_pieces indexes)) old reached reach
-    → Goes (assigned_walk assignment.value) reached valued told → Goes (fitting assignment.fits told.known) valued tested passed
+    → indexes ≡ assignment.indexes.items → WalkGoes (access_walk assignment.target (index_pieces indexes)) old reached reach
+    → WalkGoes (assigned_walk assignment.value) reached valued told → WalkGoes (fitting assignment.fits told.known) valued tested passed
     → selectors ≡ assignment.target.selectors.items → held ≡ reach_stored selectors (holds_call assignment.value) reach
-    → Goes (assign_value assignment held told.noted passed) tested new tt
-    → Goes (from_entry assignment.number (assignment_walk assignment)) old new tt
+    → WalkGoes (assign_value assignment held told.noted passed) tested new tt
+    → WalkGoes (from_entry assignment.number (assignment_walk assignment)) old new tt
 assignment-goes assignment indexes _ reach held told passed {old = old} {tested = tested} {new = new} indexes_are accessed valued fits selectors_are
     held_is stores =
     let target = assignment.target in
@@ -218,8 +220,8 @@ assignment-goes assignment indexes _ reach held told passed {old = old} {tested 
     λ reach notes passed. assign_value assignment (reach_stored own (holds_call assignment.value) reach) notes passed in
     let same : held ≡ reach_stored own (holds_call assignment.value) reach =
     held_is ∙ ap (λ (s : List Selector). reach_stored s (holds_call assignment.value) reach) selectors_are in
-    let stored : Goes (store reach told.noted passed) tested new tt =
-    subst (λ (r : Reach). Goes (assign_value assignment r told.noted passed) tested new tt) same stores in
+    let stored : WalkGoes (store reach told.noted passed) tested new tt =
+    subst (λ (r : Reach). WalkGoes (assign_value assignment r told.noted passed) tested new tt) same stores in
     let from_access : List Expr → Walking (Unit {0}) =
     λ some. access_walk target (index_pieces some)
     >>= λ reach. assigned_walk assignment.value >>= λ told. fitting assignment.fits told.known >>= store reach told.noted in
@@ -235,12 +237,12 @@ assignment-goes assignment indexes _ reach held told passed {old = old} {tested 
 -- an assignment of a whole value, likewise
 pub copying-goes : (copying : Copying) (indexes more : List Expr) (selectors : List Selector) (hold : Bool) (reach held : Reach) (ranges : List Interval)
     {old reached valued new : Walk}
-    → indexes ≡ copying.indexes.items → Goes (access_walk copying.target (index_pieces indexes)) old reached reach
-    → more ≡ copying.value_indexes.items → Goes (whole_walk copying.value (index_pieces more)) reached valued ranges
+    → indexes ≡ copying.indexes.items → WalkGoes (access_walk copying.target (index_pieces indexes)) old reached reach
+    → more ≡ copying.value_indexes.items → WalkGoes (whole_walk copying.value (index_pieces more)) reached valued ranges
     → selectors ≡ copying.target.selectors.items → hold ≡ whole_holds_call copying.value copying.value_indexes.items
     → held ≡ reach_stored selectors hold reach
-    → Goes (copy_to copying.becomes (origin_of copying.target) copying.target.selectors.items held ranges) valued new tt
-    → Goes (from_entry copying.number (copying_walk copying)) old new tt
+    → WalkGoes (copy_to copying.becomes (origin_of copying.target) copying.target.selectors.items held ranges) valued new tt
+    → WalkGoes (from_entry copying.number (copying_walk copying)) old new tt
 copying-goes copying indexes more _ hold reach held ranges {old = old} {valued = valued} {new = new} indexes_are accessed more_are whole selectors_are
     hold_is held_is stores =
     let target = copying.target in
@@ -250,8 +252,8 @@ copying-goes copying indexes more _ hold reach held ranges {old = old} {valued =
     (reach_stored own (whole_holds_call copying.value copying.value_indexes.items) reach) ranges in
     let same : held ≡ reach_stored own (whole_holds_call copying.value copying.value_indexes.items) reach =
     held_is ∙ ap₂ (λ (s : List Selector) (h : Bool). reach_stored s h reach) selectors_are hold_is in
-    let stored : Goes (store reach ranges) valued new tt =
-    subst (λ (r : Reach). Goes (copy_to copying.becomes (origin_of target) own r ranges) valued new tt) same stores in
+    let stored : WalkGoes (store reach ranges) valued new tt =
+    subst (λ (r : Reach). WalkGoes (copy_to copying.becomes (origin_of target) own r ranges) valued new tt) same stores in
     let from_access : List Expr → List Expr → Walking (Unit {0}) =
     λ some others. access_walk target (index_pieces some) >>= λ reach. whole_walk copying.value (index_pieces others) >>= store reach in
     goes-from_entry copying.number (copying_walk copying)

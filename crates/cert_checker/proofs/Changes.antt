@@ -19,8 +19,8 @@ use Rattle.typed_tree.specs.declared.tree.Variable.{Variable}
 use Rattle.typed_tree.specs.declared.tree.Tree.{Tree}
 use Rattle.domain.specs.Interval.{HasMember, Interval}
 use Rattle.meaning.specs.Counting.{next_value}
-use Rattle.meaning.specs.declared.store.Value.{Value}
-use Rattle.meaning.specs.declared.store.Value.TheVariants.{Number}
+use Rattle.meaning.specs.declared.value.Value.{Value}
+use Rattle.meaning.specs.declared.value.Value.TheVariants.{Number}
 use Rattle.meaning.specs.Kinds.{IsOfKind}
 use Rattle.meaning.specs.Store.{Environment, Place, Store, written}
 use Rattle.meaning.specs.Store as store

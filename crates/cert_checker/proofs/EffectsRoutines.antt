@@ -13,8 +13,8 @@ use Rattle.typed_tree.specs.declared.tree.Tree.{Tree}
 use Rattle.typed_tree.specs.declared.tree.Block.{Block}
 use Rattle.typed_tree.specs.declared.tree.FunctionResult.{FunctionResult}
 use Rattle.typed_tree.specs.WellFormed.{IsWellFormed}
-use Rattle.meaning.specs.declared.store.Value.{Value}
-use Rattle.meaning.specs.declared.store.Value.TheVariants.{Number}
+use Rattle.meaning.specs.declared.value.Value.{Value}
+use Rattle.meaning.specs.declared.value.Value.TheVariants.{Number}
 use Rattle.meaning.specs.Store.{Environment}
 use Rattle.meaning.specs.Effect.{Action, State, and_then, begin_with, end_with, give}
 use Rattle.meaning.specs.Effect as effect
@@ -22,7 +22,7 @@ use Rattle.meaning.specs.Meaning.{Argument, Calls, activated, calls_of, environm
 use Rattle.meaning.specs.Laws.{state_after}
 use Rattle.checker_state.specs.State.{Dead}
 use Rattle.checker_loops.specs.Sections.{BlockClaims, all_block_claims, block_claims_at, block_claims_in, no_block_claims}
-use Rattle.checker_calls.specs.Environments.{Leaves}
+use Rattle.checker_calls.specs.Environments.{CallLeaves}
 use Rattle.checker_expressions.specs.Walk.{Context, Walking}
 use Rattle.checker_expressions.specs.Walk as flow
 use Rattle.cert_checker.specs.Promise.{CallsChangeWhatTheyList}
@@ -157,10 +157,10 @@ module _ (tree : Tree) (well : IsWellFormed tree) (certificate : Certificate) (u
     call-begins = left.grows
 
     -- what a call leaves
-    pub call-leaves : Leaves s.activations (block_claims_in number (contents certificate)).changes
+    pub call-leaves : CallLeaves s.activations (block_claims_in number (contents certificate)).changes
         (environment_of tree (activation_from number block arguments caller s)) s.store after.store
     call-leaves =
-        subst (λ (claims : BlockClaims). Leaves s.activations claims.changes (environment_of tree (activation_from number block arguments caller s))
+        subst (λ (claims : BlockClaims). CallLeaves s.activations claims.changes (environment_of tree (activation_from number block arguments caller s))
         s.store after.store) (claims-are number block is) (record { values = left.leaves.values; defined = left.leaves.defined })
 
   pub calls-change-what-they-list : CallsChangeWhatTheyList tree certificate

@@ -33,7 +33,7 @@ use Rattle.typed_tree.specs.Records.{read_begins, value_begins, with_begins}
 use Rattle.typed_tree.specs.WellFormed.{all_hold, are_whole, is_control, is_local_kind, is_result_kind, is_well_formed_expr, is_well_formed_stmt}
 use Rattle.typed_tree.specs.WellFormed.{fits_target, is_well_formed_record, leads_to_ordinal, of_one, outline_of, stmt_is_well_formed}
 use Rattle.meaning.specs.declared.outcome.Ending.TheVariants as ending
-use Rattle.meaning.specs.declared.store.Value.TheVariants.{Number}
+use Rattle.meaning.specs.declared.value.Value.TheVariants.{Number}
 use Rattle.meaning.specs.Kinds.{LieOpen}
 use Rattle.meaning.specs.Store.{Place}
 use Rattle.meaning.specs.Counting.{has_values, value_behind, values_before}

@@ -6,7 +6,7 @@ use Rattle.std.proofs.lemmas.List.Folds.{list_any-append}
 use Rattle.std.proofs.lemmas.Option.{none-some}
 use Rattle.types.specs.declared.form.Step.{Step}
 use Rattle.typed_tree.specs.declared.tree.Tree.{Tree}
-use Rattle.meaning.specs.declared.store.Value.{Value}
+use Rattle.meaning.specs.declared.value.Value.{Value}
 use Rattle.meaning.specs.Store.{Environment, Place, Store, place_eq, stored, undefined}
 use Rattle.checker_state.specs.Holds.{part_of, value_at, moment}
 use Rattle.checker_state.specs.Knows.{IsKept, OneChanges}

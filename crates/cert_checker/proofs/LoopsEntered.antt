@@ -33,7 +33,7 @@ by walk grounds tree rounds =
 module _ (number : ℕ) (place : SourcePlace) (control : Option ℕ) {old : Walk} {flow : Flow} {state : Kept} (round : KeptRound) (rounds : Vec KeptRound)
     (given : Bool) (is_loop : AreLoops (context_of old) old.aliases.now → IsLoop number control old round)
     (given_is : given ≡ gives_claims old.flow.state.table.now (seen old.flow.state) (claims_of_round round).facts) where
-  pub head-reached : expressions.Goes (asked given LoopEntry place) old.flow flow tt
+  pub head-reached : expressions.FlowGoes (asked given LoopEntry place) old.flow flow tt
       → Moves (head_of flow.state.table.now (head_round round) (claims_of_round round).facts) flow.state state
       → rounds.items ≡ flow.grounds.rounds.items ++ round ∷ []
       → EntersLoop number place control old (record old { flow = record flow { grounds = record (flow.grounds) { rounds = rounds }; state = state } })
@@ -84,7 +84,7 @@ without-last {Y = Y} view items left rounds own left_is are =
 module _ (number : ℕ) (place : SourcePlace) {old : Walk} {flow : Flow} (round : KeptRound) (rounds : Vec KeptRound) (given : Bool)
     (is_loop : AreLoops (context_of old) old.aliases.now → IsLoop number None old round)
     (given_is : given ≡ gives_claims old.flow.state.table.now (seen old.flow.state) (claims_of_round round).facts) where
-  pub outside-reached : expressions.Goes (asked given LoopTurn place) old.flow flow tt
+  pub outside-reached : expressions.FlowGoes (asked given LoopTurn place) old.flow flow tt
       → rounds.items ≡ take (length flow.grounds.rounds.items - 1) flow.grounds.rounds.items
       → LeavesLoop number place old (record old { flow = record flow { grounds = record (flow.grounds) { rounds = rounds } } })
   outside-reached ask rounds_are = record {

@@ -16,7 +16,7 @@ use Rattle.typed_tree.specs.declared.tree.PathStep.TheVariants as path
 use Rattle.typed_tree.specs.declared.tree.Selector.{Selector}
 use Rattle.typed_tree.specs.declared.tree.Selector.TheVariants.{Element, Field}
 use Rattle.typed_tree.specs.declared.tree.WithRecord.{WithRecord}
-use Rattle.meaning.specs.declared.store.Value.{Value}
+use Rattle.meaning.specs.declared.value.Value.{Value}
 use Rattle.meaning.specs.Effect as effect
 use Rattle.meaning.specs.Effect.{is_in, number_of, require}
 use Rattle.meaning.specs.Kinds.{LieOpen, LiesOn, way_of}

@@ -15,7 +15,7 @@ use Rattle.checker_loops.proofs.Touched.{touched_parts}
 use Rattle.checker_loops.proofs.Lists.{among-contains, contains-among, filtered, of-flat}
 use Rattle.checker_calls.proofs.SeenAliases.{all-alias-seen}
 use Rattle.checker_expressions.specs.Walk.{Context}
-use Rattle.checker_expressions.proofs.Sound.{Goes, IsClosed, World, is_seen, listed_in}
+use Rattle.checker_expressions.proofs.Sound.{SoundGoes, IsClosed, World, is_seen, listed_in}
 
 -- an alias that is visible in a block is listed
 alias-listed : (world : World) (block root alias : ℕ) → is_among alias (aliases_in (listed_in world) block root) ≡ true
@@ -78,8 +78,8 @@ module _ (world : World) (block : ℕ) (context : Context) (number : ℕ) (tree_
       (or_right (is_among alias loop.changes) (is_among alias loop.aliases) (among-aliases root alias among is other))
 
 -- with a loop more round a piece
-pub goes-inside : (world : World) (context : Context) (round : Round) → IsClosed world context.block round → Goes world context
-    → Goes world (record context { rounds = context.rounds ++ round ∷ [] })
+pub goes-inside : (world : World) (context : Context) (round : Round) → IsClosed world context.block round → SoundGoes world context
+    → SoundGoes world (record context { rounds = context.rounds ++ round ∷ [] })
 goes-inside world context round closed goes = record {
   tree_is = goes.tree_is;
   pairs_are = goes.pairs_are;

@@ -20,8 +20,8 @@ use Rattle.typed_tree.specs.declared.tree.Variable.{Variable}
 use Rattle.typed_tree.proofs.Blocks.{are_loops_at}
 use Rattle.domain.specs.Facts.{Fact, Range, Defined, Order, Grows}
 use Rattle.domain.specs.Interval.{Interval, common}
-use Rattle.meaning.specs.declared.store.Value.{Value}
-use Rattle.meaning.specs.declared.store.Value.TheVariants.{Number}
+use Rattle.meaning.specs.declared.value.Value.{Value}
+use Rattle.meaning.specs.declared.value.Value.TheVariants.{Number}
 use Rattle.meaning.specs.Effect as effect
 use Rattle.meaning.specs.Effect.{Reply, Visit}
 use Rattle.meaning.specs.Laws.{state_after}
@@ -45,7 +45,7 @@ use Rattle.checker_loops.proofs.Tabled.{are-rows}
 use Rattle.checker_loops.specs.Sections.{BlockClaims, all_block_claims, all_pairs, block_claims_at}
 use Rattle.checker_loops.specs.Starts.{block_start}
 use Rattle.checker_loops.proofs.Lists.{among-contains, contains-more, in-flat, in-map}
-use Rattle.checker_calls.specs.Environments.{Fine, Leaves, LeavesPassed, Proper}
+use Rattle.checker_calls.specs.Environments.{Fine, CallLeaves, LeavesPassed, Proper}
 use Rattle.checker_calls.specs.Exit.{claimed_of_row, exit_range, result_range}
 use Rattle.checker_calls.proofs.AliasedTypes.{in-types}
 use Rattle.checker_calls.proofs.Assigned.{all_assigned, assigns-all}
@@ -59,7 +59,8 @@ use Rattle.checker_calls.proofs.Started.{called-start}
 use Rattle.cert_checker.proofs.Controls.{ordinal-of}
 use Rattle.checker_expressions.specs.declared.fault.Rule.TheVariants.{Exit}
 use Rattle.checker_expressions.specs.Walk.{Context, Walked, followed}
-use Rattle.checker_expressions.proofs.Sound.{Called, Good, Goes, Here, IsPartOf, LiesInResult, Returned, SoundCalls, World, activation_of, errs-here, good-give}
+use Rattle.checker_expressions.proofs.Sound.{Called, Good, SoundGoes, Here, IsPartOf, LiesInResult, Returned, SoundCalls, World, activation_of, errs-here}
+use Rattle.checker_expressions.proofs.Sound.{good-give}
 use Rattle.checker_expressions.proofs.Sound.{good-then, good-weaker, kept-rule, nothing-new, open-here, part-left, part-right, parts_in, proper-grown, sites_in}
 use Rattle.checker_expressions.proofs.Sound.{unbroken-left, unbroken-right, variables_in}
 use Rattle.checker_expressions.proofs.SoundCalls.{CallLaws}
@@ -195,7 +196,7 @@ module _ (tree : Tree) (certificate : Certificate) (unbroken : (program_walk tre
   abbrev within : ℕ → Context
   within number = record first { block = number }
 
-  goes : (number : ℕ) → Goes world (within number)
+  goes : (number : ℕ) → SoundGoes world (within number)
   goes number = record {
     tree_is = refl;
     pairs_are = refl;
@@ -518,7 +519,7 @@ module _ (tree : Tree) (certificate : Certificate) (unbroken : (program_walk tre
       let left = (calls-leave tree well certificate unbroken (suc depth)).known number block arguments caller s called.block_is in
       good-weaker world P (Returned world number block arguments caller s) s (calls_of tree (suc depth) number arguments caller s)
       (λ v t is behind. record {
-        leaves = subst (λ (u : effect.State). Leaves s.activations (claims_on number).changes
+        leaves = subst (λ (u : effect.State). CallLeaves s.activations (claims_on number).changes
             (environment_of tree (activation_of number block arguments caller s)) s.store u.store) (ap state_after is)
             (record { values = left.leaves.values; defined = left.leaves.defined });
         passed = λ begun ready same gives.

@@ -10,7 +10,7 @@ use Rattle.std.proofs.lemmas.List.Folds.{list_any-append}
 use Rattle.domain.specs.Interval.{common}
 use Rattle.domain.specs.Numbers.{hull}
 use Rattle.domain.proofs.Numbers.{among-hull}
-use Rattle.meaning.specs.declared.store.Value.TheVariants.{Number}
+use Rattle.meaning.specs.declared.value.Value.TheVariants.{Number}
 use Rattle.meaning.specs.declared.outcome.Ending.TheVariants.{Error}
 use Rattle.meaning.specs.Effect as effect
 use Rattle.meaning.specs.Meaning.{Execution, Surroundings, arm_of, is_among}

@@ -20,7 +20,7 @@ use Rattle.typed_tree.specs.declared.tree.Stmt.TheOpen.Stmt-F.{Copy}
 use Rattle.typed_tree.specs.declared.tree.Tree.{Tree}
 use Rattle.typed_tree.specs.declared.tree.Whole.{Whole}
 use Rattle.domain.specs.Interval.{Interval}
-use Rattle.meaning.specs.declared.store.Value.{Value}
+use Rattle.meaning.specs.declared.value.Value.{Value}
 use Rattle.meaning.specs.Store.{Environment, Place as StorePlace, Store}
 use Rattle.meaning.specs.Effect as effect
 use Rattle.meaning.specs.Meaning as meaning

@@ -16,7 +16,7 @@ use Rattle.typed_tree.specs.declared.tree.ForHead.{ForHead}
 use Rattle.typed_tree.specs.declared.tree.RangeTest.{RangeTest}
 use Rattle.domain.specs.Interval.{Interval, HasMember}
 use Rattle.checker_state.specs.Bounds.{Bound}
-use Rattle.meaning.specs.declared.store.Value.TheVariants.{Number}
+use Rattle.meaning.specs.declared.value.Value.TheVariants.{Number}
 use Rattle.meaning.specs.Counting.{has_values, next_value, value_behind, values_before}
 use Rattle.meaning.specs.Effect as effect
 use Rattle.meaning.specs.Effect.{Action, is_in}
@@ -55,7 +55,7 @@ use Rattle.checker_calls.proofs.SeenAliases.{apart-seen, listed_pairs}
 use Rattle.checker_expressions.specs.Walk as flow
 use Rattle.checker_expressions.specs.Walk.{Context, Walked, Walking, followed}
 use Rattle.checker_expressions.proofs.Keeping.{Keeps, keeps-itself, keeps-then}
-use Rattle.checker_expressions.proofs.Sound.{Any_value, Good, Goes, Here, IsForetold, IsPartOf, Passes, Stands, World, good-give, good-then, good-weaker}
+use Rattle.checker_expressions.proofs.Sound.{Any_value, Good, SoundGoes, Here, IsForetold, IsPartOf, Passes, Stands, World, good-give, good-then, good-weaker}
 use Rattle.checker_expressions.proofs.Sound.{here-behind, is_seen, nothing-new, part-left, part-right, parts_in, proper-grown, sites_in, kept-rule}
 use Rattle.checker_expressions.proofs.Sound.{ordinal_in, unbroken-left, unbroken-right, variables_in}
 use Rattle.checker_expressions.proofs.SoundCalls.{in_world, by-world}
@@ -494,7 +494,7 @@ module _ (world : World) (block : ℕ) (env : Surroundings)
   own-of context state s control text here =
       record { proper = here.proper; seen = text.seen; ordinal = text.ordinal; hidden = text.hidden }
 
-  goes-in : (context : Context) (state : State) (s : effect.State) → Here world block visible context state s → Goes world (inner context head.loop_number)
+  goes-in : (context : Context) (state : State) (s : effect.State) → Here world block visible context state s → SoundGoes world (inner context head.loop_number)
   goes-in context state s here =
       goes-inside world context (round_of context.tree context.pairs context.claims head.loop_number)
       (loop-closed world context.block context head.loop_number here.stands.goes.tree_is here.stands.goes.pairs_are

@@ -36,8 +36,8 @@ use Rattle.typed_tree.specs.WellFormed.{is_well_formed_line, is_well_formed_read
 use Rattle.domain.specs.Interval.{common}
 use Rattle.domain.specs.Numbers.{hull, is_covered}
 use Rattle.domain.proofs.Numbers.{among-hull, covered-among}
-use Rattle.meaning.specs.declared.store.Value.{Value}
-use Rattle.meaning.specs.declared.store.Value.TheVariants.{Members, Number}
+use Rattle.meaning.specs.declared.value.Value.{Value}
+use Rattle.meaning.specs.declared.value.Value.TheVariants.{Members, Number}
 use Rattle.meaning.specs.Kinds.{IsOf}
 use Rattle.meaning.specs.Store.{Environment, Place as StorePlace, Store, inside_for}
 use Rattle.meaning.specs.Effect as effect

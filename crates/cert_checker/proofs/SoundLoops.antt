@@ -13,8 +13,8 @@ use Rattle.typed_tree.specs.declared.tree.Tree.{Tree}
 use Rattle.place.specs.declared.Place.{Place as SourcePlace}
 use Rattle.domain.specs.Facts.{Fact}
 use Rattle.meaning.specs.declared.outcome.Ending.TheVariants.{More}
-use Rattle.meaning.specs.declared.store.Value.{Value}
-use Rattle.meaning.specs.declared.store.Value.TheVariants.{Members, Number}
+use Rattle.meaning.specs.declared.value.Value.{Value}
+use Rattle.meaning.specs.declared.value.Value.TheVariants.{Members, Number}
 use Rattle.meaning.specs.Store.{Environment, Store}
 use Rattle.meaning.specs.Effect as effect
 use Rattle.meaning.specs.Effect.{Action, and_then}
@@ -25,7 +25,8 @@ use Rattle.checker_state.specs.declared.value.Known.TheVariants.{Ordinal, Set}
 use Rattle.checker_state.specs.Holds.{HoldNumbers, moment}
 use Rattle.checker_state.specs.Knows.{IsKept, Knows, AreEntire}
 use Rattle.checker_state.specs.Loops.{is_among}
-use Rattle.checker_expressions.proofs.Sound.{Any_value, Good, Goes, Here, IsForetold, IsHeld, IsPartOf, Sound, Stands, World, good-give, good-then, ordinal_in}
+use Rattle.checker_expressions.proofs.Sound.{Any_value, Good, SoundGoes, Here, IsForetold, IsHeld, IsPartOf, Sound, Stands, World, good-give, good-then}
+use Rattle.checker_expressions.proofs.Sound.{ordinal_in}
 use Rattle.checker_expressions.proofs.Sound.{good-weaker, here-behind, kept-rule, nothing-new, part-left, part-right, parts_in, proper-grown, stands-as}
 use Rattle.checker_expressions.proofs.Sound.{unbroken-left, unbroken-right, variables_in}
 use Rattle.checker_state.specs.State.{State}
@@ -362,7 +363,7 @@ AreFine {A} world few at Fits =
 module _ {A : Type 0} (world : World) (block : ℕ) (env : Environment) (few : ℕ)
     (proper : Proper world.tree world.pairs block few env) (context : Context) (number : ℕ) (control : Option ℕ) (state : State)
     (start : Store) (at : A → Store → Store) (Fits : A → Store → Type 0) (at_fine : AreFine world few at Fits) (again out : State)
-    (stands : Stands world env context state start) (goes : Goes world (inner context number))
+    (stands : Stands world env context state start) (goes : SoundGoes world (inner context number))
     (controls_are : AreEntire (parts_in world) (variables_in world) (at_head context number control).controls) where
   abbrev facts : List Fact
   facts = (claims_at context.claims number).facts
@@ -422,7 +423,7 @@ module _ {A : Type 0} (world : World) (block : ℕ) (env : Environment) (few : �
 -- a loop whose rounds are sound
 pub loop-good : {A : Type 0} (world : World) → (block : ℕ) (env : Environment) (number : ℕ) (place : SourcePlace)
     (control : Option ℕ) (round : effect.Round A) (walking : Walking State) (at : A → Store → Store) (Fits : A → Store → Type 0) (context : Context)
-    (state : State) (a : A) (s : effect.State) → AreFine world s.activations at Fits → Goes world (inner context number)
+    (state : State) (a : A) (s : effect.State) → AreFine world s.activations at Fits → SoundGoes world (inner context number)
     → AreEntire (parts_in world) (variables_in world) (at_head context number control).controls
     → ((b : A) (t : effect.State) → s.activations ≤ t.activations → Fine world.tree t
     → (walking (inner context number) (loop_begun context number control state)).broken ≡ []

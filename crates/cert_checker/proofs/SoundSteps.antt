@@ -27,8 +27,8 @@ use Rattle.domain.specs.declared.versions.Extension.TheVariants.{Growths}
 use Rattle.domain.specs.Interval.{Interval, HasMember, negated}
 use Rattle.domain.specs.Ranges.{negated-has}
 use Rattle.meaning.specs.Integers.{is_integer_number}
-use Rattle.meaning.specs.declared.store.Value.{Value}
-use Rattle.meaning.specs.declared.store.Value.TheVariants.{Number, Members}
+use Rattle.meaning.specs.declared.value.Value.{Value}
+use Rattle.meaning.specs.declared.value.Value.TheVariants.{Number, Members}
 use Rattle.meaning.specs.Store.{Environment, Store}
 use Rattle.meaning.specs.Effect as effect
 use Rattle.meaning.specs.Effect.{number_of}

@@ -11,7 +11,7 @@ use Rattle.typed_tree.specs.declared.tree.Selector.{Selector}
 use Rattle.typed_tree.specs.declared.tree.Tree.{Tree}
 use Rattle.checker_state.specs.Bounds.{Bound}
 use Rattle.domain.specs.Interval.{Interval}
-use Rattle.meaning.specs.declared.store.Value.{Value}
+use Rattle.meaning.specs.declared.value.Value.{Value}
 use Rattle.meaning.specs.Store.{Environment, Place, Store}
 use Rattle.meaning.specs.Store as store
 use Rattle.checker_state.specs.Holds.{IsIn, IsOfRow, component_at, moment, value_at}

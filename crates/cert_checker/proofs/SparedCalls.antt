@@ -14,7 +14,7 @@ use Rattle.typed_tree.specs.Loops.{controls_of}
 use Rattle.typed_tree.specs.Threats.{controls_but, is_none_of}
 use Rattle.typed_tree.specs.WellFormed.{IsWellFormed, outline_of}
 use Rattle.meaning.specs.declared.outcome.Ending.TheVariants as ending
-use Rattle.meaning.specs.declared.store.Value.{Value}
+use Rattle.meaning.specs.declared.value.Value.{Value}
 use Rattle.meaning.specs.Effect.{Action, State, and_then, begin_with, end_with, give}
 use Rattle.meaning.specs.Effect as effect
 use Rattle.meaning.specs.Laws.{state_after}

@@ -48,8 +48,8 @@ use Rattle.typed_tree.specs.Records.{read_begins, written_begins}
 use Rattle.typed_tree.specs.WellFormed.{Outline, all_hold, are_whole, fits_target, is_control, is_well_formed_expr, is_well_formed_record, is_well_formed_stmt}
 use Rattle.typed_tree.specs.WellFormed.{length_of, stmt_is_well_formed}
 use Rattle.meaning.specs.declared.outcome.Ending.TheVariants as ending
-use Rattle.meaning.specs.declared.store.Value.{Value}
-use Rattle.meaning.specs.declared.store.Value.TheVariants.{Members, Number}
+use Rattle.meaning.specs.declared.value.Value.{Value}
+use Rattle.meaning.specs.declared.value.Value.TheVariants.{Members, Number}
 use Rattle.meaning.specs.Integers.{truth}
 use Rattle.meaning.specs.Kinds.{LieOpen}
 use Rattle.meaning.specs.Counting.{has_values, value_behind, values_before}

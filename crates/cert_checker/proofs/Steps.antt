@@ -8,7 +8,7 @@ use Rattle.typed_tree.specs.declared.tree.Tree.{Tree}
 use Rattle.checker_state.specs.State.{State}
 use Rattle.checker_trail.specs.declared.state.State.{State as Kept}
 use Rattle.checker_trail.specs.Trail as trail
-use Rattle.checker_trail.specs.Trail.{EndsAt, Leaves, Left, seen}
+use Rattle.checker_trail.specs.Trail.{EndsAt, TrailLeaves, Left, seen}
 use Rattle.checker_trail.proofs.Ways as ways
 use Rattle.checker_expressions.specs.declared.fault.Breach.{Breach}
 use Rattle.checker_expressions.specs.declared.flow.Flow.{Flow}
@@ -20,7 +20,7 @@ use Rattle.checker_expressions.proofs.Counted.{counted-both}
 use Rattle.checker_expressions.specs.Walk.{Context, Walked, Walking, ◌>>=◌, changed_by, enter, first_breach, followed, give, tested}
 use Rattle.cert_checker.specs.declared.walk.Walk.{Walk}
 use Rattle.cert_checker.specs.Walk.{all_of, from_entry}
-use Rattle.cert_checker.specs.View.{AreLoops, Came, Goes, Noted, at_state, context_of}
+use Rattle.cert_checker.specs.View.{AreLoops, Came, WalkGoes, Noted, at_state, context_of}
 
 -- ---- what was noted
 
@@ -109,12 +109,12 @@ came-give value walk = record {
   state_is = refl;
 }
 
-pub goes-give : {A : Type 0} (value : A) (walk : Walk) → Goes (give value) walk walk value
+pub goes-give : {A : Type 0} (value : A) (walk : Walk) → WalkGoes (give value) walk walk value
 goes-give value walk =
     record { unless_short = λ long. record { was_long = long; has_done = λ ready. came-give value walk } }
 
-pub goes-then : {A B : Type 0} (first : Walking A) (next : A → Walking B) {old mid new : Walk} {a : A} {b : B} → Goes first old mid a
-    → Goes (next a) mid new b → Goes (first >>= next) old new b
+pub goes-then : {A B : Type 0} (first : Walking A) (next : A → Walking B) {old mid new : Walk} {a : A} {b : B} → WalkGoes first old mid a
+    → WalkGoes (next a) mid new b → WalkGoes (first >>= next) old new b
 goes-then first next one two = record {
   unless_short = λ long.
       let rest = two.unless_short long in
@@ -129,7 +129,7 @@ goes-then first next one two = record {
 
 -- the same walk from here, told otherwise
 pub goes-here : {A : Type 0} (form walk : Walking A) {old new : Walk} {a : A}
-    → form (context_of old) (state_of old.flow) ≡ walk (context_of old) (state_of old.flow) → Goes form old new a → Goes walk old new a
+    → form (context_of old) (state_of old.flow) ≡ walk (context_of old) (state_of old.flow) → WalkGoes form old new a → WalkGoes walk old new a
 goes-here form walk {old = old} {new = new} {a = a} same goes = record {
   unless_short = λ long.
       let one = goes.unless_short long in
@@ -137,11 +137,11 @@ goes-here form walk {old = old} {new = new} {a = a} same goes = record {
 }
 
 -- with a value that is the same
-pub goes-valued : {A : Type 0} (walk : Walking A) {old new : Walk} {a : A} (b : A) → b ≡ a → Goes walk old new a → Goes walk old new b
-goes-valued walk {old = old} {new = new} b same goes = subst (λ x. Goes walk old new x) (sym same) goes
+pub goes-valued : {A : Type 0} (walk : Walking A) {old new : Walk} {a : A} (b : A) → b ≡ a → WalkGoes walk old new a → WalkGoes walk old new b
+goes-valued walk {old = old} {new = new} b same goes = subst (λ x. WalkGoes walk old new x) (sym same) goes
 
 -- an entry, which the checker only counts
-pub goes-entered : (number : ℕ) (walk : Walk) → Goes (enter number) walk walk tt
+pub goes-entered : (number : ℕ) (walk : Walk) → WalkGoes (enter number) walk walk tt
 goes-entered number walk = record {
   unless_short = λ long. record {
     was_long = long;
@@ -155,7 +155,7 @@ goes-entered number walk = record {
 }
 
 -- a piece from its entry on
-pub goes-from_entry : (number : ℕ) (walk : Walking (Unit {0})) {old new : Walk} → Goes walk old new tt → Goes (from_entry number walk) old new tt
+pub goes-from_entry : (number : ℕ) (walk : Walking (Unit {0})) {old new : Walk} → WalkGoes walk old new tt → WalkGoes (from_entry number walk) old new tt
 goes-from_entry number walk {old = old} goes = goes-then (enter number) (λ _. walk) (goes-entered number old) goes
 
 -- ---- what the flow and the state did
@@ -167,8 +167,8 @@ context-flow old flow grounds table =
     ap₂ (λ (g : Grounds) (tree : Tree). record (context_of (record old { flow = record flow { grounds = g } })) { tree = tree }) grounds table
 
 -- what the flow did over an expression, whatever is claimed of loops
-pub lifted : {A : Type 0} {walking : Walking A} {old : Walk} {flow : Flow} {value : A} → expressions.Goes walking old.flow flow value
-    → Goes walking old (record old { flow = flow }) value
+pub lifted : {A : Type 0} {walking : Walking A} {old : Walk} {flow : Flow} {value : A} → expressions.FlowGoes walking old.flow flow value
+    → WalkGoes walking old (record old { flow = flow }) value
 lifted {walking = walking} {old = old} {flow = flow} {value = value} goes = record {
   unless_short = λ long.
       let one = goes.unless_short long in
@@ -192,11 +192,11 @@ lifted {walking = walking} {old = old} {flow = flow} {value = value} goes = reco
 
 -- a test, with what passes
 pub goes-tested : (closed is_closed : Bool) (site : ℕ) (passed range : Interval) {old : Walk} {flow : Flow} {value : Interval} → is_closed ≡ closed
-    → range ≡ passed → expressions.Goes (tested is_closed site range) old.flow flow value
-    → Goes (tested closed site passed) old (record old { flow = flow }) passed
+    → range ≡ passed → expressions.FlowGoes (tested is_closed site range) old.flow flow value
+    → WalkGoes (tested closed site passed) old (record old { flow = flow }) passed
 goes-tested closed is_closed site passed range {old = old} {flow = flow} {value = value} closed_is passed_is goes =
-    let same = subst (λ (c : Bool). expressions.Goes (tested c site passed) old.flow flow value) closed_is
-    (subst (λ (p : Interval). expressions.Goes (tested is_closed site p) old.flow flow value) passed_is goes) in
+    let same = subst (λ (c : Bool). expressions.FlowGoes (tested c site passed) old.flow flow value) closed_is
+    (subst (λ (p : Interval). expressions.FlowGoes (tested is_closed site p) old.flow flow value) passed_is goes) in
     let moves = lifted same in
     record {
       unless_short = λ long.
@@ -211,7 +211,7 @@ goes-tested closed is_closed site passed range {old = old} {flow = flow} {value 
 
 -- a step of the state
 pub moved : {step : State → State} {old : Walk} {state : Kept} → trail.Moves step old.flow.state state
-    → Goes (changed_by step) old (at_state state old) tt
+    → WalkGoes (changed_by step) old (at_state state old) tt
 moved {step = step} {old = old} {state = state} moves = record {
   unless_short = λ long.
       let one = moves.unless_short long in
@@ -242,15 +242,15 @@ pub drop-past : {X : Type 0} (items : List X) (i : ℕ) → length items ≤ i �
 drop-past items i past = drop_all i items past
 
 module _ {X : Type 0} (walk : X → Walking (Unit {0})) (items : List X) where
-  pub all-step : (i : ℕ) (x : X) {old mid new : Walk} → i < length items → x ≡ get_or items i x → Goes (walk x) old mid tt
-      → Goes (all_of (map walk (drop (i + 1) items))) mid new tt → Goes (all_of (map walk (drop i items))) old new tt
+  pub all-step : (i : ℕ) (x : X) {old mid new : Walk} → i < length items → x ≡ get_or items i x → WalkGoes (walk x) old mid tt
+      → WalkGoes (all_of (map walk (drop (i + 1) items))) mid new tt → WalkGoes (all_of (map walk (drop i items))) old new tt
   all-step i x {old = old} {new = new} inside is one rest =
-      subst (λ (left : List X). Goes (all_of (map walk left)) old new tt) (sym (item-cut items i x inside is))
+      subst (λ (left : List X). WalkGoes (all_of (map walk left)) old new tt) (sym (item-cut items i x inside is))
       (goes-then (walk x) (λ _. all_of (map walk (drop (i + 1) items))) one rest)
 
-  pub all-end : (i : ℕ) (old : Walk) → length items ≤ i → Goes (all_of (map walk (drop i items))) old old tt
+  pub all-end : (i : ℕ) (old : Walk) → length items ≤ i → WalkGoes (all_of (map walk (drop i items))) old old tt
   all-end i old past =
-      subst (λ (left : List X). Goes (all_of (map walk left)) old old tt) (sym (drop-past items i past)) (goes-give tt old)
+      subst (λ (left : List X). WalkGoes (all_of (map walk left)) old old tt) (sym (drop-past items i past)) (goes-give tt old)
 
 -- their entries
 module _ {X Counter : Type 0} (counted : ℕ → Counter → Counter) (total : List X → List ℕ) (entries : X → List ℕ)

@@ -11,7 +11,7 @@ use Rattle.checker_state.specs.State.{State, has_number, of_types, range_of, tab
 use Rattle.checker_trail.specs.declared.state.State.{State as Kept}
 use Rattle.checker_known.specs.declared.change.Branch.{Branch}
 use Rattle.checker_trail.specs.Trail as trail
-use Rattle.checker_known.specs.Known.{seen_core}
+use Rattle.checker_known.specs.Knowledge.{seen_core}
 use Rattle.checker_known.specs.View.{type_rows}
 use Rattle.checker_trail.proofs.Ways as ways
 use Rattle.checker_loops.specs.Loops.{gives_claims}
@@ -26,7 +26,7 @@ use Rattle.checker_expressions.proofs.Flows as flows
 use Rattle.checker_expressions.specs.Walk.{Context, Walking, ◌>>=◌, asked, changed_by, left_open}
 use Rattle.cert_checker.specs.declared.walk.Walk.{Walk}
 use Rattle.cert_checker.specs.Walk.{block_walk, blocks_walk, result_use, statement_walk}
-use Rattle.cert_checker.specs.View.{AreDeclared, Begins, Came, Goes, KnowsTypes, Noted, Passes, at_state, begin_here, block_walk_here, context_of}
+use Rattle.cert_checker.specs.View.{AreDeclared, Begins, Came, WalkGoes, KnowsTypes, Noted, Passes, at_state, begin_here, block_walk_here, context_of}
 use Rattle.cert_checker.specs.View.{exit_here, start_of}
 use Rattle.cert_checker.proofs.Steps.{came-then, drop-past, goes-here, goes-then, item-cut, lifted, loops-noted, moved, noted-as, noted-nothing, noted-then}
 use Rattle.cert_checker.proofs.StepsWays.{IsBack, StaysLong}
@@ -56,7 +56,7 @@ begun number declared old {flow = flow} only long begins =
 
 -- and goes on
 pub begins-then : (first next : Walking (Unit {0})) (declared : List (Vec ℕ)) {old mid new : Walk} → Begins first declared old mid
-    → Goes next mid new tt → Begins (first >>= λ _. next) declared old new
+    → WalkGoes next mid new tt → Begins (first >>= λ _. next) declared old new
 begins-then first next declared begins goes = record {
   unless_short = λ long.
       let rest = goes.unless_short long in
@@ -71,8 +71,8 @@ begins-then first next declared begins goes = record {
 
 -- from its start to its end
 pub block-inside : (number : ℕ) (block : Block) (declared : List (Vec ℕ)) {old started walked used new : Walk}
-    → Begins (begin_here number) declared old started → Goes (statement_walk block.body) started walked tt
-    → Goes (result_use block.heading.result) walked used tt → Goes (exit_here number block.end) used new tt
+    → Begins (begin_here number) declared old started → WalkGoes (statement_walk block.body) started walked tt
+    → WalkGoes (result_use block.heading.result) walked used tt → WalkGoes (exit_here number block.end) used new tt
     → Begins (block_walk_here number block) declared old new
 block-inside number block declared begins one two three =
     begins-then (begin_here number) (statement_walk block.body >>= λ _. (result_use block.heading.result >>= λ _. exit_here number block.end)) declared
@@ -84,9 +84,9 @@ block-inside number block declared begins one two three =
 
 -- a function has a result where it ends
 pub result-used : (own : FunctionResult) (closed : Bool) (range : Interval) {old : Walk} {flow : Flow} {state : Kept}
-    → closed ≡ has_number (table_of (context_of old).tree) (state_of old.flow) own.root → expressions.Goes (opened closed own.defined) old.flow flow tt
+    → closed ≡ has_number (table_of (context_of old).tree) (state_of old.flow) own.root → expressions.FlowGoes (opened closed own.defined) old.flow flow tt
     → range ≡ range_of (state_of flow) own.root → trail.Moves (unless_empty range) flow.state state
-    → Goes (result_use (Some own)) old (record old { flow = record flow { state = state } }) tt
+    → WalkGoes (result_use (Some own)) old (record old { flow = record flow { state = state } }) tt
 result-used own closed range {old = old} {flow = flow} closed_is opens range_is moves =
     let step = λ (s : State). unless_empty (range_of s own.root) s in
     let has = has_number (table_of (context_of old).tree) (state_of old.flow) own.root in
@@ -94,13 +94,13 @@ result-used own closed range {old = old} {flow = flow} closed_is opens range_is 
     goes-here (site >>= λ _. changed_by step) (result_use (Some own))
     (ap (λ ids. record (result_use (Some own) (context_of old) (state_of old.flow)) { open_ids = ids }) (append-nil (left_open has own.defined)))
     (goes-then site (λ _. changed_by step)
-    (lifted (subst (λ (b : Bool). expressions.Goes (opened b own.defined) old.flow flow tt) closed_is opens))
+    (lifted (subst (λ (b : Bool). expressions.FlowGoes (opened b own.defined) old.flow flow tt) closed_is opens))
     (moved (ways.moves-as step moves (ap (λ r. unless_empty r (state_of flow)) range_is))))
 
 -- its exit facts are asked for
 pub exit-asked : (number : ℕ) (place : Place) (given : Bool) {old new : Flow}
     → given ≡ gives_claims old.state.table.now (state_of old) (block_claims_at (map said_section old.grounds.sections.items) number).exit
-    → expressions.Goes (asked given Exit place) old new tt → expressions.Goes (exit_here number place) old new tt
+    → expressions.FlowGoes (asked given Exit place) old new tt → expressions.FlowGoes (exit_here number place) old new tt
 exit-asked number place given {old = old} is goes =
     flows.goes-alike (asked given Exit place) (exit_here number place)
     (λ claims. ap (λ (b : Bool). asked b Exit place (expressions.context_of old claims) (state_of old)) is) goes

@@ -18,7 +18,7 @@ use Rattle.checker_trail.specs.declared.state.State.{State as Kept}
 use Rattle.checker_known.specs.declared.change.Branch.{Branch}
 use Rattle.checker_trail.specs.Trail as trail
 use Rattle.checker_trail.specs.Trail.{Comes, EndsAt, seen}
-use Rattle.checker_known.specs.Known.{Core, core, seen_core}
+use Rattle.checker_known.specs.Knowledge.{Core, core, seen_core}
 use Rattle.checker_trail.proofs.Ways as ways
 use Rattle.checker_loops.specs.Cases.{arm_start, constants_before}
 use Rattle.checker_expressions.specs.View.{state_of}
@@ -26,7 +26,7 @@ use Rattle.checker_expressions.specs.declared.fault.Breach.{Breach}
 use Rattle.checker_expressions.specs.Walk.{Context, Linked, Walking, ◌>>=◌, followed, tested}
 use Rattle.cert_checker.specs.declared.walk.Walk.{Walk}
 use Rattle.cert_checker.specs.Walk.{arm_walk, arms_walk, case_walk, index_root, statement_walk}
-use Rattle.cert_checker.specs.View.{Came, Does, Goes, Noted, arms_from_here, at_state, context_of}
+use Rattle.cert_checker.specs.View.{Came, WalkDoes, WalkGoes, Noted, arms_from_here, at_state, context_of}
 use Rattle.cert_checker.proofs.Steps.{drop-past, goes-here, goes-then, item-cut, loops-same, noted-nothing, noted-then}
 use Rattle.cert_checker.proofs.StepsWays.{IsBack, MeetsFirst, StaysLong, context-back}
 
@@ -61,14 +61,14 @@ module _ (index : Option ℕ) (rows : List (Vec ℤ Global)) (arms : List Stmt) 
 
   -- the checker went over those that are left, from a mark on, where a branch leads behind those before
   abbrev pub GoesLeft : ℕ → ℕ → Walk → Branch → Walk → Type 0
-  GoesLeft mark i here behind new = Does here new
+  GoesLeft mark i here behind new = WalkDoes here new
       ((end : Core) → mark ≡ length here.flow.state.trail.items → EndsAt (core here.flow.state.known) behind end
       → Came (arms_left i (state_of here.flow) (context_of here) (seen_core end)) here new tt)
 
   -- before the first of them no way behind them is known
   pub arms-begin : (mark : ℕ) (old : Walk) {dead back : Kept} {behind : Branch} {new : Walk} → mark ≡ length old.flow.state.trail.items
       → trail.Moves (λ _. Dead) old.flow.state dead → StaysLong dead back → IsBack mark dead back behind
-      → GoesLeft mark 0 (at_state back old) behind new → Goes (arms_from_here index rows (map statement_walk arms)) old new tt
+      → GoesLeft mark 0 (at_state back old) behind new → WalkGoes (arms_from_here index rows (map statement_walk arms)) old new tt
   arms-begin mark old {dead = dead} {back = back} {behind = behind} {new = new} is dies back_long is_back left_goes = record {
     unless_short = λ long.
         let rest = left_goes.unless_short long in
@@ -101,7 +101,7 @@ module _ (index : Option ℕ) (rows : List (Vec ℤ Global)) (arms : List Stmt) 
   -- the next of them: it is walked from the mark, and meets what is known behind those before
   pub arms-step : (mark i : ℕ) (arm : Stmt) (at : Walk) {begun met back : Kept} {walked : Walk} {behind next : Branch} {new : Walk}
       → i < length arms → arm ≡ get_or arms i arm → trail.Moves (arm_start index (slice_get rows i)) at.flow.state begun
-      → Goes (statement_walk arm) (at_state begun at) walked tt → StaysLong walked.flow.state met
+      → WalkGoes (statement_walk arm) (at_state begun at) walked tt → StaysLong walked.flow.state met
       → MeetsFirst mark walked.flow.state met behind → StaysLong met back → IsBack mark met back next
       → GoesLeft mark (i + 1) (at_state back walked) next new → GoesLeft mark i at behind new
   arms-step mark i arm at {begun = begun} {met = met} {back = back} {walked = walked} {behind = behind} {next = next} {new = new} inside is begins
@@ -179,10 +179,10 @@ module _ (index : Option ℕ) (rows : List (Vec ℤ Global)) (arms : List Stmt) 
 pub case-tested : (head : CaseHead) (arms : List Stmt) (count : ℕ) (tree : Tree) (index : Option ℕ) (rows : List (Vec ℤ Global)) (range : Interval)
     (known : Known) {old mid new : Walk} {passed : Interval} → count ≡ length arms → tree ≡ mid.flow.state.table.now → index ≡ index_root tree head
     → rows ≡ head.constants.items → range ≡ known_range known
-    → Goes (tested (is_covered range (constants_before count head.constants.items)) head.site
+    → WalkGoes (tested (is_covered range (constants_before count head.constants.items)) head.site
     (common range (hull (constants_before count head.constants.items)))) old mid passed
-    → Goes (arms_from_here index rows (map statement_walk arms)) mid new tt
-    → Goes (λ context. case_walk context.tree head (map statement_walk arms) known context) old new tt
+    → WalkGoes (arms_from_here index rows (map statement_walk arms)) mid new tt
+    → WalkGoes (λ context. case_walk context.tree head (map statement_walk arms) known context) old new tt
 case-tested head arms count tree index rows range known {old = old} {mid = mid} {new = new} {passed = passed} count_is tree_is index_is rows_are range_is test
     rest =
     let walks = map statement_walk arms in
@@ -190,13 +190,13 @@ case-tested head arms count tree index rows range known {old = old} {mid = mid} 
     let many : count ≡ length walks = count_is ∙ sym (length-map arms statement_walk) in
     let test_of = λ (r : Interval) (n : ℕ). tested (is_covered r (constants_before n head.constants.items)) head.site
     (common r (hull (constants_before n head.constants.items))) in
-    let tests : Goes (test_of own (length walks)) old mid passed =
-    subst (λ (n : ℕ). Goes (test_of own n) old mid passed) many (subst (λ (r : Interval). Goes (test_of r count) old mid passed) range_is test) in
+    let tests : WalkGoes (test_of own (length walks)) old mid passed =
+    subst (λ (n : ℕ). WalkGoes (test_of own n) old mid passed) many (subst (λ (r : Interval). WalkGoes (test_of r count) old mid passed) range_is test) in
     let behind = λ (t : Tree). arms_from_here (index_root t head) head.constants.items walks in
-    let arms_go : Goes (λ context. behind context.tree context) mid new tt =
-    subst (λ (i : Option ℕ). Goes (arms_from_here i head.constants.items walks) mid new tt)
+    let arms_go : WalkGoes (λ context. behind context.tree context) mid new tt =
+    subst (λ (i : Option ℕ). WalkGoes (arms_from_here i head.constants.items walks) mid new tt)
     (index_is ∙ ap (λ (t : Tree). index_root t head) tree_is)
-    (subst (λ (l : List (Vec ℤ Global)). Goes (arms_from_here index l walks) mid new tt) rows_are rest) in
+    (subst (λ (l : List (Vec ℤ Global)). WalkGoes (arms_from_here index l walks) mid new tt) rows_are rest) in
     let first = test_of own (length walks) (context_of old) (state_of old.flow) in
     let last = λ (ids : List ℕ) (breaches : List Breach) (linked : List Linked).
     followed (record first { open_ids = ids; broken = breaches; linked = linked })

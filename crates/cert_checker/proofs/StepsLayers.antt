@@ -15,11 +15,11 @@ use Rattle.typed_tree.specs.Entries.{entries_of_expression, entries_of_statement
 use Rattle.checker_expressions.specs.Walk.{Walking}
 use Rattle.cert_checker.specs.declared.walk.Walk.{Walk}
 use Rattle.cert_checker.specs.Walk.{all_of, bounds_walk, choice_walk, from_entry, index_walk, repeat_walk, statement_walk, while_walk, with_walk}
-use Rattle.cert_checker.specs.View.{Goes, else_entries, else_walk}
+use Rattle.cert_checker.specs.View.{WalkGoes, else_entries, else_walk}
 
 -- the same walk, told otherwise
-pub goes-as : (walk form : Walking (Unit {0})) {old new : Walk} → walk ≡ form → Goes form old new tt → Goes walk old new tt
-goes-as walk form {old = old} {new = new} same goes = subst (λ (w : Walking (Unit {0})). Goes w old new tt) (sym same) goes
+pub goes-as : (walk form : Walking (Unit {0})) {old new : Walk} → walk ≡ form → WalkGoes form old new tt → WalkGoes walk old new tt
+goes-as walk form {old = old} {new = new} same goes = subst (λ (w : Walking (Unit {0})). WalkGoes w old new tt) (sym same) goes
 
 pub statement-If : (number : ℕ) (condition : Expr) (consequence : Box Stmt Global) (alternative : Option (Box Stmt Global))
     → statement_walk (stmt.If number condition consequence alternative)

@@ -10,8 +10,8 @@ use Rattle.checker_trail.specs.declared.state.State.{State as Kept}
 use Rattle.checker_known.specs.declared.change.Branch.{Branch}
 use Rattle.checker_trail.specs.Meets.{JoinsBehind}
 use Rattle.checker_trail.specs.Trail as trail
-use Rattle.checker_known.specs.Known.{Core, core}
-use Rattle.checker_trail.specs.Trail.{EndsAt, Leaves, Left, seen}
+use Rattle.checker_known.specs.Knowledge.{Core, core}
+use Rattle.checker_trail.specs.Trail.{EndsAt, TrailLeaves, Left, seen}
 use Rattle.checker_trail.proofs.Ways as ways
 use Rattle.domain.specs.Facts.{Fact}
 use Rattle.checker_loops.specs.Growths.{Turns}
@@ -23,7 +23,7 @@ use Rattle.checker_expressions.specs.View.{first_of, state_of}
 use Rattle.checker_expressions.specs.Walk.{Context, Walked, Walking, ◌>>=◌, breach_unless, changed_by, first_breach, followed, give, with_state}
 use Rattle.cert_checker.specs.declared.walk.Walk.{Walk}
 use Rattle.cert_checker.specs.Walk.{either_of, facts_given, here, loop_walk, parted, rounds_by, rounds_of, steady_in, turns_in}
-use Rattle.cert_checker.specs.View.{AreLoops, AtHead, Came, EntersLoop, Goes, IsOutside, LeavesLoop, Noted, at_state, claims_in, context_of}
+use Rattle.cert_checker.specs.View.{AreLoops, AtHead, Came, EntersLoop, WalkGoes, IsOutside, LeavesLoop, Noted, at_state, claims_in, context_of}
 use Rattle.cert_checker.specs.View.{loop_in}
 use Rattle.cert_checker.proofs.Steps.{came-give, came-then, first-both, goes-here, goes-then, loops-noted, loops-same, noted-as}
 use Rattle.cert_checker.proofs.Steps.{noted-then}
@@ -36,11 +36,11 @@ StaysLong old new = new.refused ≡ None → old.refused ≡ None
 
 -- a state was taken back to a mark
 abbrev pub IsBack : ℕ → (old new : Kept) → Branch → Type 0
-IsBack mark old new branch = (start : Kept) → mark ≡ length start.trail.items → trail.Goes start old → Leaves start old new branch
+IsBack mark old new branch = (start : Kept) → mark ≡ length start.trail.items → trail.TrailGoes start old → TrailLeaves start old new branch
 
 -- a state met a branch from a mark that was walked before
 abbrev pub MeetsFirst : ℕ → (old new : Kept) → Branch → Type 0
-MeetsFirst mark old new branch = (start : Kept) (end : Core) → mark ≡ length start.trail.items → trail.Goes start old
+MeetsFirst mark old new branch = (start : Kept) (end : Core) → mark ≡ length start.trail.items → trail.TrailGoes start old
     → EndsAt (core start.known) branch end → JoinsBehind start end old new
 
 -- the checker whose state was taken back goes by what it went by
@@ -52,10 +52,10 @@ context-back old mid back same same_table =
 -- ---- two ways
 
 module _ (one other : Walking (Unit {0})) (mark : ℕ) {old mid done : Walk} {back new : Kept} {first : Branch} where
-  pub ways-done : mark ≡ length old.flow.state.trail.items → Goes one old mid tt → StaysLong mid.flow.state back
-      → IsBack mark mid.flow.state back first → Goes other (at_state back mid) done tt → StaysLong done.flow.state new
+  pub ways-done : mark ≡ length old.flow.state.trail.items → WalkGoes one old mid tt → StaysLong mid.flow.state back
+      → IsBack mark mid.flow.state back first → WalkGoes other (at_state back mid) done tt → StaysLong done.flow.state new
       → MeetsFirst mark done.flow.state new first
-      → Goes (λ context state. either_of context (one context state) (other context state)) old (at_state new done) tt
+      → WalkGoes (λ context state. either_of context (one context state) (other context state)) old (at_state new done) tt
   ways-done mark_is one_goes back_long is_back other_goes new_long meets = record {
     unless_short = λ long.
         let second = other_goes.unless_short (new_long long) in
@@ -98,10 +98,10 @@ module _ (one other : Walking (Unit {0})) (mark : ℕ) {old mid done : Walk} {ba
 
 -- each way from what is known there
 pub parted-done : (one_state other_state : State → State) (one other : Walking (Unit {0})) (mark : ℕ) {old taken mid start done : Walk} {back new : Kept}
-    {first : Branch} → mark ≡ length old.flow.state.trail.items → Goes (changed_by one_state) old taken tt → Goes one taken mid tt
+    {first : Branch} → mark ≡ length old.flow.state.trail.items → WalkGoes (changed_by one_state) old taken tt → WalkGoes one taken mid tt
     → StaysLong mid.flow.state back → IsBack mark mid.flow.state back first
-    → Goes (changed_by other_state) (at_state back mid) start tt → Goes other start done tt → StaysLong done.flow.state new
-    → MeetsFirst mark done.flow.state new first → Goes (parted one_state other_state one other) old (at_state new done) tt
+    → WalkGoes (changed_by other_state) (at_state back mid) start tt → WalkGoes other start done tt → StaysLong done.flow.state new
+    → MeetsFirst mark done.flow.state new first → WalkGoes (parted one_state other_state one other) old (at_state new done) tt
 parted-done one_state other_state one other mark {old = old} {done = done} {new = new} is to_one walked back_long is_back to_other walked_too new_long meets =
     goes-here
     (λ context state. either_of context ((changed_by one_state >>= λ _. one) context state) ((changed_by other_state >>= λ _. other) context state))
@@ -189,7 +189,7 @@ module _ {X : Type 0} (number : ℕ) (place : Place) (control : Option ℕ) (fir
           returned =
               ways.took-back mark is (ways.goes-then two.goes is_out.goes) is_back long
 
-          to_back : trail.Goes old.flow.state back
+          to_back : trail.TrailGoes old.flow.state back
           to_back = ways.goes-then at_head.goes (ways.goes-then one.goes (ways.goes-back returned))
 
           back-noted : Noted whole old (at_state back outside)
@@ -220,11 +220,11 @@ module _ {X : Type 0} (number : ℕ) (place : Place) (control : Option ℕ) (fir
 -- it was told whether another turn follows, and on from there where none does
 pub loop-done : {X : Type 0} (number : ℕ) (place : Place) (control : Option ℕ) (first : Walking X) (again : X → State → Walking (Unit {0}))
     (out : Tree → X → State → State) (mark : ℕ) {old head tested turned outside new : Walk} {x : X} {back : Kept} {branch : Branch}
-    → EntersLoop number place control old head → Goes first head tested x → mark ≡ length tested.flow.state.trail.items
-    → Goes (again x (state_of tested.flow)) tested turned tt → LeavesLoop number place turned outside
+    → EntersLoop number place control old head → WalkGoes first head tested x → mark ≡ length tested.flow.state.trail.items
+    → WalkGoes (again x (state_of tested.flow)) tested turned tt → LeavesLoop number place turned outside
     → StaysLong outside.flow.state back → IsBack mark outside.flow.state back branch
-    → Goes (changed_by (out back.table.now x)) (at_state back outside) new tt
-    → Goes (loop_walk number place control (round_of_parts first again out)) old new tt
+    → WalkGoes (changed_by (out back.table.now x)) (at_state back outside) new tt
+    → WalkGoes (loop_walk number place control (round_of_parts first again out)) old new tt
 loop-done number place control first again out mark {old = old} {head = head} {tested = tested} {turned = turned} {outside = outside} {new = new} {x = x}
     {back = back} {branch = branch} enters first_goes is turn_goes leaves back_long is_back out_goes = record {
       unless_short = λ long.
@@ -288,8 +288,9 @@ loop-alike number place control one other context alike state =
 pub rounds-go : (head : ForHead) (body : Walking (Unit {0})) (way steady : Way) (turns : Turns) (claims : Claims) {old new : Walk}
     → (AreLoops (context_of old) old.aliases.now → steady ≡ steady_in (context_of old) head.loop_number way)
     → (AreLoops (context_of old) old.aliases.now → turns ≡ turns_in (context_of old) head.loop_number way)
-    → (AreLoops (context_of old) old.aliases.now → claims ≡ claims_in head.loop_number old) → Goes (rounds_by head turns claims.facts steady body) old new tt
-    → Goes (rounds_of head body way) old new tt
+    → (AreLoops (context_of old) old.aliases.now → claims ≡ claims_in head.loop_number old) → WalkGoes (rounds_by head turns claims.facts steady body) old new
+    tt
+    → WalkGoes (rounds_of head body way) old new tt
 rounds-go head body way steady turns claims {old = old} {new = new} is turns_are claims_are goes = record {
   unless_short = λ long.
       let one = goes.unless_short long in

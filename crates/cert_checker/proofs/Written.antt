@@ -14,7 +14,7 @@ use Rattle.typed_tree.specs.Accesses.{AtVariable, accessed}
 use Rattle.typed_tree.specs.WellFormed.{of_one}
 use Rattle.checker_state.specs.Bounds.{Bound}
 use Rattle.domain.specs.Interval.{Interval}
-use Rattle.meaning.specs.declared.store.Value.{Value}
+use Rattle.meaning.specs.declared.value.Value.{Value}
 use Rattle.meaning.specs.Store.{Environment, Place as StorePlace, Store, part, written}
 use Rattle.meaning.specs.Effect as effect
 use Rattle.checker_state.specs.Holds.{IsIn, moment}

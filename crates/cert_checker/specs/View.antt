@@ -16,7 +16,7 @@ use Rattle.checker_rows.specs.Rows.{rows_of, type_at}
 use Rattle.checker_state.specs.State.{State, of_types}
 use Rattle.checker_trail.specs.declared.state.State.{State as Kept}
 use Rattle.checker_trail.specs.Trail as trail
-use Rattle.checker_known.specs.Known.{core}
+use Rattle.checker_known.specs.Knowledge.{core}
 use Rattle.checker_trail.specs.Trail.{seen}
 use Rattle.checker_known.specs.View.{type_rows}
 use Rattle.checker_loops.specs.declared.loops.Claims.{Claims as KeptClaims}
@@ -59,7 +59,7 @@ pub record Did (old : Walk) (done : Type 0) : Type 0 where
   pub has_done : AreLoops (context_of old) old.aliases.now → done
 
 -- the same unless memory ran out
-pub record Does (old new : Walk) (done : Type 0) : Type 0 where
+pub record WalkDoes (old new : Walk) (done : Type 0) : Type 0 where
   pub unless_short : new.flow.state.refused ≡ None → Did old done
 
 -- what the checker noted from an old to a new point is what was walked: the sites that are left open, and the first
@@ -73,14 +73,14 @@ pub record Noted {A : Type 0} (walked : Walked A) (old new : Walk) : Type 0 wher
 -- the checker came from an old to a new point as was walked, and has the value; what it did to its state can be taken
 -- back
 pub record Came {A : Type 0} (walked : Walked A) (old new : Walk) (value : A) : Type 0 where
-  pub goes : trail.Goes old.flow.state new.flow.state
+  pub goes : trail.TrailGoes old.flow.state new.flow.state
   pub noted : Noted walked old new
   pub value_is : value ≡ walked.value
   pub state_is : state_of new.flow ≡ walked.after
 
 -- the checker went over a piece of a program
-abbrev pub Goes : {A : Type 0} → Walking A → Walk → Walk → A → Type 0
-Goes walking old new value = Does old new (Came (walking (context_of old) (state_of old.flow)) old new value)
+abbrev pub WalkGoes : {A : Type 0} → Walking A → Walk → Walk → A → Type 0
+WalkGoes walking old new value = WalkDoes old new (Came (walking (context_of old) (state_of old.flow)) old new value)
 
 -- ---- statements
 
@@ -126,7 +126,7 @@ pub record IsLoop (number : ℕ) (control : Option ℕ) (walk : Walk) (round : K
 
 -- the checker came to the head of a loop of a number and a place, where its facts are asked for
 pub record AtHead (number : ℕ) (place : Place) (control : Option ℕ) (old new : Walk) : Type 0 where
-  pub goes : trail.Goes old.flow.state new.flow.state
+  pub goes : trail.TrailGoes old.flow.state new.flow.state
   pub context_is : context_of new
       ≡ record (context_of old) {
         rounds = (context_of old).rounds ++ loop_in number old ∷ [];
@@ -142,11 +142,11 @@ pub record AtHead (number : ℕ) (place : Place) (control : Option ℕ) (old new
       (facts_given LoopEntry place (claims_in number old).facts (context_of old) (state_of old.flow)).broken)
 
 abbrev pub EntersLoop : ℕ → Place → Option ℕ → Walk → Walk → Type 0
-EntersLoop number place control old new = Does old new (AtHead number place control old new)
+EntersLoop number place control old new = WalkDoes old new (AtHead number place control old new)
 
 -- the checker is in a loop of a number and a place no longer, where its facts are asked for
 pub record IsOutside (number : ℕ) (place : Place) (rounds : List Round) (old new : Walk) : Type 0 where
-  pub goes : trail.Goes old.flow.state new.flow.state
+  pub goes : trail.TrailGoes old.flow.state new.flow.state
   pub context_is : context_of new ≡ record (context_of old) { rounds = rounds }
   pub aliases_are : new.aliases.now ≡ old.aliases.now
   pub open_is : new.flow.open_ids.items ≡ old.flow.open_ids.items
@@ -157,7 +157,7 @@ pub record IsOutside (number : ℕ) (place : Place) (rounds : List Round) (old n
 
 -- that of the loop round it which it entered last
 abbrev pub LeavesLoop : ℕ → Place → Walk → Walk → Type 0
-LeavesLoop number place old new = Does old new
+LeavesLoop number place old new = WalkDoes old new
     ((rounds : List Round) (own : Round) → (context_of old).rounds ≡ rounds ++ own ∷ []
     → IsOutside number place rounds old new)
 
@@ -190,7 +190,7 @@ block_walk_here number block context = block_walk_by number block (block_claims_
 
 -- the checker walked from the start of a block
 abbrev pub Begins : Walking (Unit {0}) → List (Vec ℕ) → Walk → Walk → Type 0
-Begins walking declared old new = Does old new
+Begins walking declared old new = WalkDoes old new
     (AreDeclared declared old → KnowsTypes old
     → Came (walking (context_of old) (state_of old.flow)) old new tt)
 
@@ -200,7 +200,7 @@ pub record Passed (walked : Walked (Unit {0})) (old new : Walk) : Type 0 where
   pub noted : Noted walked old new
 
 abbrev pub Passes : Walking (Unit {0}) → List (Vec ℕ) → Walk → Walk → Type 0
-Passes walking declared old new = Does old new
+Passes walking declared old new = WalkDoes old new
     (AreDeclared declared old → KnowsTypes old
     → Passed (walking (context_of old) (state_of old.flow)) old new)
 

@@ -6,7 +6,7 @@ ghost use Rattle.checker_expressions.specs.Visits.{all_counted};
 ghost use Rattle.cert_checker.specs.Steps.{assigned_walk};
 ghost use Rattle.cert_checker.specs.StepsView.{said_valued};
 ghost use Rattle.cert_checker.specs.StoresView.{said_stores};
-ghost use Rattle.cert_checker.specs.View.{Goes, context_of};
+ghost use Rattle.cert_checker.specs.View.{WalkGoes, context_of};
 ghost use Rattle.cert_checker.specs.Walk.{aliases_here, assign, assign_component, assign_to, assign_value};
 ghost use Rattle.cert_checker.specs.Walk.{assignment_walk};
 ghost use Rattle.cert_checker.specs.Walk.{change, copy_to, copying_walk, from_entry, is_whole_variable, store_to};
@@ -16,22 +16,20 @@ use crate::increments::{Valued, value_step};
 use crate::reached::reach_stored;
 use crate::stores::{Stores, assign};
 use crate::walk::Walk;
-use checker_expressions::count::Count;
-use checker_expressions::fault::Rule;
 use checker_expressions::noting::Noted;
+use checker_expressions::{Count, Rule};
 use checker_state::{Bound, Known, Reach, bound_form};
-use domain::interval::Interval;
-use domain::versions::Extension;
+use domain::{Extension, Interval};
 use place::Place;
 use std::alloc::AllocError;
-use typed_tree::calls::{holds_call, whole_holds_call};
-use typed_tree::tree::{Access, Assignment, Base, Copying, Expr};
+use typed_tree::{Access, Assignment, Base, Copying, Expr, holds_call, whole_holds_call};
 
 // What statements store to variables and to components.
 impl<'a> Walk<'a> {
     /// The value has to lie in the range of the target's type.
     pub(crate) fn assignment<C: Count>(&mut self, assignment: &Assignment, visits: &mut C)
-        ensures goes { Goes (from_entry assignment.now.number (assignment_walk assignment.now)) self.old self.new tt }
+        ensures goes { WalkGoes (from_entry assignment.now.number (assignment_walk assignment.now)) self.old self.new
+            tt }
         ensures counts { visits.new ≡ all_counted C.counted (assignment.now.number
             ∷ (access_entries assignment.now.target (index_entries assignment.now.indexes.items)
             ++ entries_of_expression assignment.now.value)) visits.old }
@@ -47,7 +45,7 @@ impl<'a> Walk<'a> {
 
     /// A value that is assigned: its operands are noted where certificates tell how variables grow.
     fn assigned_value<C: Count>(&mut self, value: &Expr, visits: &mut C) -> Valued
-        ensures goes { Goes (assigned_walk value.now) self.old self.new (said_valued result) }
+        ensures goes { WalkGoes (assigned_walk value.now) self.old self.new (said_valued result) }
         ensures counts { visits.new ≡ all_counted C.counted (entries_of_expression value.now) visits.old }
     {
         let mut notes = Vec::new(self.flow.state.alloc());
@@ -62,7 +60,7 @@ impl<'a> Walk<'a> {
 
     /// An assignment of a whole value.
     pub(crate) fn copying<C: Count>(&mut self, copying: &Copying, visits: &mut C)
-        ensures goes { Goes (from_entry copying.now.number (copying_walk copying.now)) self.old self.new tt }
+        ensures goes { WalkGoes (from_entry copying.now.number (copying_walk copying.now)) self.old self.new tt }
         ensures counts { visits.new ≡ all_counted C.counted (copying.now.number
             ∷ (access_entries copying.now.target (index_entries copying.now.indexes.items)
             ++ whole_entries copying.now.value (index_entries copying.now.value_indexes.items))) visits.old }
@@ -83,7 +81,7 @@ impl<'a> Walk<'a> {
         notes: &[Noted],
         passed: Known,
     )
-        ensures { Goes (assign_value assignment.now (said_reach reach) notes.now passed) self.old self.new tt }
+        ensures { WalkGoes (assign_value assignment.now (said_reach reach) notes.now passed) self.old self.new tt }
     {
         let rows = self.flow.state.table();
         let form = bound_form(rows, &assignment.value);
@@ -108,7 +106,7 @@ impl<'a> Walk<'a> {
         form: Option<Bound>,
         step: Option<Interval>,
     )
-        ensures { Goes (assign_to place (origin_of target.now) target.now.selectors.items (said_reach reach)
+        ensures { WalkGoes (assign_to place (origin_of target.now) target.now.selectors.items (said_reach reach)
             (said_form form) step range) self.old self.new tt }
     {
         if is_whole_variable(target) {
@@ -121,7 +119,7 @@ impl<'a> Walk<'a> {
 
     /// A component gets a value.
     fn assign_component(&mut self, place: Place, target: &Access, reach: Reach, range: Interval)
-        ensures { Goes (assign_component place (origin_of target.now) target.now.selectors.items
+        ensures { WalkGoes (assign_component place (origin_of target.now) target.now.selectors.items
             (said_reach reach) range) self.old self.new tt }
     {
         let rows = self.flow.state.table().accessed(target);
@@ -131,7 +129,7 @@ impl<'a> Walk<'a> {
 
     /// Components of these ranges are copied to what is accessed.
     fn copy_to(&mut self, copying: &Copying, reach: Reach, ranges: &[Interval])
-        ensures { Goes (copy_to copying.now.becomes (origin_of copying.now.target)
+        ensures { WalkGoes (copy_to copying.now.becomes (origin_of copying.now.target)
             copying.now.target.selectors.items (said_reach reach) ranges.now) self.old self.new tt }
     {
         let target = &copying.target;
@@ -142,7 +140,7 @@ impl<'a> Walk<'a> {
 
     /// Values are stored to what is reached of a variable.
     fn store_to(&mut self, place: Place, root: u32, reach: Reach, stores: &Stores)
-        ensures { Goes (store_to place root (said_reach reach) (said_stores stores.now)) self.old self.new tt }
+        ensures { WalkGoes (store_to place root (said_reach reach) (said_stores stores.now)) self.old self.new tt }
     {
         self.change(place, root);
         self.store(root, reach, stores);
@@ -150,7 +148,7 @@ impl<'a> Walk<'a> {
 
     /// A variable is changed: each loop round the walk has to list it, and the block, if need be.
     fn change(&mut self, place: Place, root: u32)
-        ensures { Goes (change place root) self.old self.new tt }
+        ensures { WalkGoes (change place root) self.old self.new tt }
     {
         let may = self.flow.may_change(root);
         self.flow.ask(may, Rule::Changes, place);
@@ -159,7 +157,7 @@ impl<'a> Walk<'a> {
     /// Values are stored to rows, and aliases may have them. What is known of the variables where it is done counts for
     /// each row.
     fn store(&mut self, root: u32, reach: Reach, stores: &Stores)
-        ensures { Goes (stores_made root (said_reach reach) (said_stores stores.now)) self.old self.new tt }
+        ensures { WalkGoes (stores_made root (said_reach reach) (said_stores stores.now)) self.old self.new tt }
     {
         match self.aliases(root) {
             Ok(aliases) => stores.make(&mut self.flow.state, &aliases, reach),
@@ -175,7 +173,7 @@ impl<'a> Walk<'a> {
         form: Option<Bound>,
         step: Option<Interval>,
     )
-        ensures { Goes (assign root (said_form form) step range) self.old self.new tt }
+        ensures { WalkGoes (assign root (said_form form) step range) self.old self.new tt }
     {
         match self.aliases(root) {
             Ok(aliases) => assign(&mut self.flow.state, &aliases, root, range, form, step),

@@ -5,22 +5,18 @@ ghost use Rattle.checker_state.specs.State.{of_types};
 ghost use Rattle.checker_trail.specs.Trail.{Moves};
 ghost use Rattle.checker_known.specs.View.{type_rows};
 ghost use Rattle.checker_loops.specs.Starts.{all_declared};
-ghost use Rattle.checker_expressions.specs.View.{Goes as FlowGoes, state_of};
+ghost use Rattle.checker_expressions.specs.View.{FlowGoes as FlowGoes, state_of};
 ghost use Rattle.checker_expressions.specs.Visits.{all_counted};
-ghost use Rattle.cert_checker.specs.View.{Begins, Goes, Passes, block_walk_here, exit_here, start_of};
+ghost use Rattle.cert_checker.specs.View.{Begins, WalkGoes, Passes, block_walk_here, exit_here, start_of};
 ghost use Rattle.cert_checker.specs.Walk.{block_walk, blocks_walk, result_use};
 
 use crate::walk::Walk;
-use checker_expressions::count::Count;
-use checker_expressions::fault::Rule;
-use checker_expressions::flow::Flow;
-use checker_loops::claims::gives_facts;
-use checker_loops::sections::block_claims_at;
-use checker_loops::starts::begin_block;
+use checker_expressions::{Count, Flow, Rule};
+use checker_loops::{begin_block, block_claims_at, gives_facts};
 use checker_state::Bound;
 use place::Place;
 use std::mem;
-use typed_tree::tree::{Block, FunctionResult, Tree};
+use typed_tree::{Block, FunctionResult, Tree};
 
 // Blocks, one after another.
 impl<'a> Walk<'a> {
@@ -73,7 +69,7 @@ impl<'a> Walk<'a> {
 
     /// Where a function ends, it has a result.
     pub fn use_result(&mut self, function: Option<FunctionResult>)
-        ensures { Goes (result_use function) self.old self.new tt }
+        ensures { WalkGoes (result_use function) self.old self.new tt }
     {
         if let Some(own) = function {
             let closed = self.flow.state.has_value(Bound::plus(own.root, 0));
@@ -84,7 +80,7 @@ impl<'a> Walk<'a> {
     }
 }
 
-/// Goes on where a block of a number begins, by what is claimed of it.
+/// WalkGoes on where a block of a number begins, by what is claimed of it.
 pub fn begin(flow: &mut Flow, number: u32, declared: &[Vec<u32>])
     ensures only { flow.new ≡ record (flow.old) { state = flow.new.state } }
     ensures long { flow.new.state.refused ≡ None → flow.old.state.refused ≡ None }

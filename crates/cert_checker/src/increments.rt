@@ -6,9 +6,8 @@ ghost use Rattle.cert_checker.specs.Steps.{operated_step, sum_step, taken_off, v
 use checker_expressions::noting::Noted;
 use checker_rows::Rows;
 use checker_state::{Known, entire};
-use domain::interval::Interval;
-use typed_tree::calls::holds_call;
-use typed_tree::tree::{Dyadic, Expr, Link};
+use domain::Interval;
+use typed_tree::{Dyadic, Expr, Link, holds_call};
 
 /// What is known of a value that is assigned.
 #[derive(Drop)]

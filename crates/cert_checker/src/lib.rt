@@ -23,14 +23,13 @@ mod visits;
 pub mod walk;
 
 use certificate::Certificate;
-use checker_expressions::fault::CheckFault;
+use checker_expressions::CheckFault;
 use checker_rows::Rows;
 use names::is_known;
 use open_sites::open_sites;
 use program::program;
 use std::alloc::Global;
-use typed_tree::site::Site;
-use typed_tree::tree::Tree;
+use typed_tree::{Site, Tree};
 
 /// What the checker found out of a program.
 #[derive(Drop)]

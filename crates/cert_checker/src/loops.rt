@@ -4,23 +4,22 @@ ghost use Rattle.checker_ways.specs.View.{said_way};
 ghost use Rattle.checker_loops.specs.Ways.{entered};
 ghost use Rattle.checker_expressions.specs.Walk.{changed_by, within};
 ghost use Rattle.checker_loops.specs.View.{claims_of_round, said_turns};
-ghost use Rattle.cert_checker.specs.View.{AreLoops, EntersLoop, Goes, IsLoop, LeavesLoop, claims_in, context_of};
+ghost use Rattle.cert_checker.specs.View.{AreLoops, EntersLoop, WalkGoes, IsLoop, LeavesLoop, claims_in, context_of};
 ghost use Rattle.cert_checker.specs.Walk.{begin_way, growths_entered, steady_in, tested_way, turn_from, turn_to};
 ghost use Rattle.cert_checker.specs.Walk.{turns_in};
 
 use crate::walk::Walk;
-use checker_expressions::fault::Rule;
-use checker_loops::growths::{Turns, depth_of};
-use checker_loops::rounds::Round;
+use checker_expressions::Rule;
+use checker_loops::{Round, Turns, depth_of};
 use checker_rows::limits;
 use checker_ways::ways::Way;
-use domain::interval::Interval;
+use domain::Interval;
 use place::Place;
-use typed_tree::tree::RangeTest;
+use typed_tree::RangeTest;
 
 // Where a loop begins and ends.
 impl<'a> Walk<'a> {
-    /// Goes on at the head of a loop, whose facts have to be given here.
+    /// WalkGoes on at the head of a loop, whose facts have to be given here.
     pub(crate) fn enter_loop(&mut self, number: u32, place: Place, control: Option<u32>)
         ensures { EntersLoop number place control self.old self.new }
     {
@@ -34,7 +33,7 @@ impl<'a> Walk<'a> {
         }
     }
 
-    /// Goes on outside a loop, whose facts have to be given where a round of it ends.
+    /// WalkGoes on outside a loop, whose facts have to be given where a round of it ends.
     pub(crate) fn leave_loop(&mut self, number: u32, place: Place)
         ensures { LeavesLoop number place self.old self.new }
     {
@@ -61,7 +60,7 @@ impl<'a> Walk<'a> {
 impl<'a> Walk<'a> {
     /// The way behind the tests of both bounds.
     pub fn tested_way(&mut self, way: &Way) -> Way
-        ensures { Goes (tested_way (said_way way.now)) self.old self.new (said_way result) }
+        ensures { WalkGoes (tested_way (said_way way.now)) self.old self.new (said_way result) }
     {
         let first = way.first.met(&self.flow.state);
         let last = way.last.met(&self.flow.state);
@@ -72,22 +71,22 @@ impl<'a> Walk<'a> {
 
     /// The test of a bound whose value lies in a range.
     fn tested_end(&mut self, fits: RangeTest, range: Interval) -> Interval
-        ensures { Goes (within (limits_of fits.range) fits.site range) self.old self.new result }
+        ensures { WalkGoes (within (limits_of fits.range) fits.site range) self.old self.new result }
     {
         self.flow.within(limits(fits.range), fits.site, range)
     }
 
     /// The control variable is the first bound, where a first turn may begin.
     pub fn begin_way(&mut self, way: &Way)
-        ensures { Goes (begin_way (said_way way.now)) self.old self.new tt }
+        ensures { WalkGoes (begin_way (said_way way.now)) self.old self.new tt }
     {
         self.enter_way(way);
         self.assigned(way.control, way.first.values, way.first.form, None);
     }
 
-    /// Goes on where a first turn may begin.
+    /// WalkGoes on where a first turn may begin.
     fn enter_way(&mut self, way: &Way)
-        ensures { Goes (changed_by (entered (said_way way.now))) self.old self.new tt }
+        ensures { WalkGoes (changed_by (entered (said_way way.now))) self.old self.new tt }
     {
         way.enter(&mut self.flow.state);
     }
@@ -108,24 +107,25 @@ impl<'a> Walk<'a> {
 
     /// Growths have to be given before the first turn.
     pub(crate) fn enter_turns(&mut self, turns: &Turns, place: Place)
-        ensures { Goes (growths_entered place (claims_of_round turns.now.round).facts) self.old self.new tt }
+        ensures { WalkGoes (growths_entered place (claims_of_round turns.now.round).facts) self.old self.new tt }
     {
         let given = turns.can_begin(&self.flow.state);
         self.flow.ask(given, Rule::LoopEntry, place);
     }
 
-    /// Goes on where a turn begins.
+    /// WalkGoes on where a turn begins.
     pub(crate) fn begin_turn(&mut self, way: &Way, turns: &Turns)
-        ensures { Goes (turn_from (said_turns turns.now) (claims_of_round turns.now.round).facts (said_way way.now))
+        ensures { WalkGoes (turn_from (said_turns turns.now) (claims_of_round turns.now.round).facts (said_way way.now))
             self.old self.new tt }
     {
         way.begin_turn(&mut self.flow.state);
         turns.begin(&mut self.flow.state);
     }
 
-    /// Goes on where a turn ends and another follows: growths have to be given.
+    /// WalkGoes on where a turn ends and another follows: growths have to be given.
     pub(crate) fn end_turn(&mut self, way: &Way, turns: &Turns, place: Place)
-        ensures { Goes (turn_to (said_turns turns.now) place (claims_of_round turns.now.round).facts (said_way way.now))
+        ensures { WalkGoes (turn_to (said_turns turns.now) place (claims_of_round turns.now.round).facts
+            (said_way way.now))
             self.old self.new tt }
     {
         way.end_turn(&mut self.flow.state);

@@ -12,12 +12,10 @@ ghost use Rattle.checker_calls.specs.Names.{span_roots, spans_are_known, spans_r
 ghost use Rattle.cert_checker.specs.NamesView.{may_name};
 
 use certificate::{AliasPair, Certificate, Fact, LoopClaims, Section};
-use checker_calls::visible::{
-    is_outward, is_result, is_value_parameter, is_variable_parameter, is_visible,
-};
+use checker_calls::{is_outward, is_result, is_value_parameter, is_variable_parameter, is_visible};
 use checker_rows::Rows;
-use domain::facts::{Bound, Path, Span, Spans};
-use typed_tree::tree::Tree;
+use domain::{Bound, Path, Span, Spans};
+use typed_tree::Tree;
 use types::{TypeForm, TypeId, TypeTable};
 
 /// Whether a certificate names blocks, loops, and variables and parts of them alone that are there, each loop under its

@@ -5,7 +5,7 @@ ghost use Rattle.std.specs.Ordering.{nat_cmp};
 ghost use Rattle.cert_checker.specs.Promise.{open_in};
 
 use std::alloc::{AllocError, Global};
-use typed_tree::site::Site;
+use typed_tree::Site;
 
 /// The sites of a table whose ids are among the given ones, in the order of the table.
 pub(crate) fn open_sites(

@@ -8,17 +8,13 @@ use crate::blocks::block_count;
 use crate::visits::Visits;
 use crate::walk::Walk;
 use certificate::Certificate;
-use checker_expressions::fault::{Breach, CheckFault};
-use checker_expressions::flow::Flow;
-use checker_expressions::grounds::Grounds;
+use checker_expressions::{Breach, CheckFault, Flow, Grounds};
 use checker_loops::loops::{Claims, all_claims, all_loop_aliases};
-use checker_loops::pairs::Pairs;
-use checker_loops::sections::{all_block_claims, all_pairs};
-use checker_loops::starts::all_declared;
+use checker_loops::{Pairs, all_block_claims, all_declared, all_pairs};
 use checker_rows::Rows;
 use checker_trail::State;
 use std::alloc::{AllocError, Global};
-use typed_tree::tree::Tree;
+use typed_tree::Tree;
 
 /// What a walk over a program found out.
 #[derive(Drop)]

@@ -3,9 +3,9 @@ ghost use Rattle.std.specs.Prelude.{◌≡◌};
 ghost use Rattle.checker_state.specs.View.{said_indexes, said_reach};
 ghost use Rattle.cert_checker.specs.Walk.{ends_at_index, is_some_index, reach_before, reach_of_store, reach_stored};
 
-use checker_calls::actuals::unknown_reach;
+use checker_calls::unknown_reach;
 use checker_state::{Indexes, Reach};
-use typed_tree::tree::Selector;
+use typed_tree::Selector;
 
 /// What is reached where these selectors are stored to, by a value that may hold a call.
 pub(crate) fn reach_stored(selectors: &[Selector], holds_call: bool, reach: Reach) -> Reach

@@ -13,7 +13,7 @@ use checker_state::{Bound, Reach};
 use checker_trail::State;
 use checker_ways::aliases;
 use checker_ways::aliases::{Stored, form_unless_alias, reach_unless_alias};
-use domain::interval::Interval;
+use domain::Interval;
 use std::alloc::{AllocError, Global};
 
 /// The rows that get values, each with the range of its values.

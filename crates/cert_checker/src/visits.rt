@@ -3,9 +3,9 @@ ghost use Rattle.typed_tree.specs.Entries.{entries_of};
 ghost use Rattle.checker_expressions.specs.Visits.{all_counted};
 ghost use Rattle.cert_checker.specs.Visits.{Visits as Counter, counted, most_counted, none_counted};
 
-use checker_expressions::count::Count;
+use checker_expressions::Count;
 use std::marker::Model;
-use typed_tree::tree::Tree;
+use typed_tree::Tree;
 
 /// The count of the entries into the statements and expressions of a program by the checker's walk.
 ///

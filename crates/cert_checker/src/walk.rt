@@ -10,21 +10,19 @@ ghost use Rattle.checker_ways.specs.View.{said_way};
 ghost use Rattle.checker_expressions.specs.Visits.{all_counted};
 ghost use Rattle.checker_expressions.specs.Walk.{access_walk, call_walk, changed_by, index_pieces, parameter_walk};
 ghost use Rattle.checker_expressions.specs.Walk.{passed_piece_of, tested, value_walk, whole_walk};
-ghost use Rattle.cert_checker.specs.View.{Goes, arms_from_here, else_entries, else_walk, statements_entries};
+ghost use Rattle.cert_checker.specs.View.{WalkGoes, arms_from_here, else_entries, else_walk, statements_entries};
 ghost use Rattle.cert_checker.specs.Walk.{all_of, bounds_walk, choice_walk, for_turns, for_walk, from_entry};
 ghost use Rattle.cert_checker.specs.Walk.{index_walk, record_walk, with_walk};
 ghost use Rattle.cert_checker.specs.Walk.{repeat_walk, rounds_of, statement_walk, where_so, while_walk};
 
-use checker_expressions::count::Count;
-use checker_expressions::flow::Flow;
+use checker_expressions::{Count, Flow};
 use checker_loops::loops::Claims;
 use checker_state::{Known, Reach, entire};
 use checker_ways::cases::{begin_arm, constants_before, covers};
 use checker_ways::ways::Way;
-use domain::Domain;
-use domain::interval::Interval;
+use domain::{Domain, Interval};
 use std::alloc::{AllocError, Global};
-use typed_tree::tree::{
+use typed_tree::{
     Access, CaseHead, Expr, ForHead, LoopHead, ProcedureCall, Stmt, Whole, WithHead, WithRecord,
     Writing,
 };
@@ -44,7 +42,7 @@ impl<'a> Walk<'a> {
     /// A statement (ISO 7185:1990, 6.8).
     #[cycle(statement)]
     pub fn statement<C: Count>(&mut self, statement: &Stmt, visits: &mut C)
-        ensures goes { Goes (statement_walk statement.now) self.old self.new tt }
+        ensures goes { WalkGoes (statement_walk statement.now) self.old self.new tt }
         ensures counts { visits.new ≡ all_counted C.counted (entries_of_statement statement.now) visits.old }
     {
         match statement {
@@ -85,7 +83,7 @@ impl<'a> Walk<'a> {
     /// Statements, one after another.
     #[cycle(statement)]
     fn statements<C: Count>(&mut self, statements: &[Stmt], visits: &mut C)
-        ensures goes { Goes (all_of (map statement_walk statements.now)) self.old self.new tt }
+        ensures goes { WalkGoes (all_of (map statement_walk statements.now)) self.old self.new tt }
         ensures counts { visits.new ≡ all_counted C.counted (statements_entries statements.now) visits.old }
     {
         for statement in statements {
@@ -96,7 +94,7 @@ impl<'a> Walk<'a> {
     /// The statement behind `else`, if there is one.
     #[cycle(statement)]
     fn alternative<C: Count>(&mut self, alternative: &Option<Box<Stmt>>, visits: &mut C)
-        ensures goes { Goes (else_walk alternative.now) self.old self.new tt }
+        ensures goes { WalkGoes (else_walk alternative.now) self.old self.new tt }
         ensures counts { visits.new ≡ all_counted C.counted (else_entries alternative.now) visits.old }
     {
         match alternative {
@@ -108,7 +106,7 @@ impl<'a> Walk<'a> {
     /// A while.
     #[cycle(statement)]
     fn while_loop<C: Count>(&mut self, head: &LoopHead, body: &Stmt, visits: &mut C)
-        ensures goes { Goes (from_entry head.now.number (while_walk head.now (statement_walk body.now)))
+        ensures goes { WalkGoes (from_entry head.now.number (while_walk head.now (statement_walk body.now)))
             self.old self.new tt }
         ensures counts { visits.new ≡ all_counted C.counted (head.now.number
             ∷ (entries_of_expression head.now.condition ++ entries_of_statement body.now)) visits.old }
@@ -127,7 +125,7 @@ impl<'a> Walk<'a> {
     /// A repeat.
     #[cycle(statement)]
     fn repeat_loop<C: Count>(&mut self, head: &LoopHead, statements: &[Stmt], visits: &mut C)
-        ensures goes { Goes (from_entry head.now.number
+        ensures goes { WalkGoes (from_entry head.now.number
             (repeat_walk head.now (all_of (map statement_walk statements.now)))) self.old self.new tt }
         ensures counts { visits.new ≡ all_counted C.counted (head.now.number
             ∷ (statements_entries statements.now ++ entries_of_expression head.now.condition)) visits.old }
@@ -146,7 +144,7 @@ impl<'a> Walk<'a> {
     /// A for.
     #[cycle(statement)]
     fn for_loop<C: Count>(&mut self, head: &ForHead, body: &Stmt, visits: &mut C)
-        ensures goes { Goes (from_entry head.now.number (bounds_walk head.now (statement_walk body.now)))
+        ensures goes { WalkGoes (from_entry head.now.number (bounds_walk head.now (statement_walk body.now)))
             self.old self.new tt }
         ensures counts { visits.new ≡ all_counted C.counted (head.now.number
             ∷ (entries_of_expression head.now.first.value
@@ -162,7 +160,7 @@ impl<'a> Walk<'a> {
     /// A for, from the values of its bounds: where there are any, and where there are none.
     #[cycle(statement)]
     fn for_statement<C: Count>(&mut self, head: &ForHead, body: &Stmt, way: &Way, visits: &mut C)
-        ensures goes { Goes (for_walk head.now (statement_walk body.now) (said_way way.now)) self.old self.new tt }
+        ensures goes { WalkGoes (for_walk head.now (statement_walk body.now) (said_way way.now)) self.old self.new tt }
         ensures counts { visits.new ≡ all_counted C.counted (entries_of_statement body.now) visits.old }
     {
         let mark = self.flow.state.mark();
@@ -177,7 +175,7 @@ impl<'a> Walk<'a> {
     /// A for where there are values.
     #[cycle(statement)]
     fn for_turns<C: Count>(&mut self, head: &ForHead, body: &Stmt, way: &Way, visits: &mut C)
-        ensures goes { Goes (for_turns head.now (statement_walk body.now) (said_way way.now)) self.old self.new tt }
+        ensures goes { WalkGoes (for_turns head.now (statement_walk body.now) (said_way way.now)) self.old self.new tt }
         ensures counts { visits.new ≡ all_counted C.counted (entries_of_statement body.now) visits.old }
     {
         let tested = self.tested_way(way);
@@ -188,7 +186,7 @@ impl<'a> Walk<'a> {
     /// The turns of a for.
     #[cycle(statement)]
     fn turns<C: Count>(&mut self, head: &ForHead, body: &Stmt, way: &Way, visits: &mut C)
-        ensures goes { Goes (rounds_of head.now (statement_walk body.now) (said_way way.now)) self.old self.new tt }
+        ensures goes { WalkGoes (rounds_of head.now (statement_walk body.now) (said_way way.now)) self.old self.new tt }
         ensures counts { visits.new ≡ all_counted C.counted (entries_of_statement body.now) visits.old }
     {
         let steady = self.steady_in(head.loop_number, way);
@@ -208,7 +206,7 @@ impl<'a> Walk<'a> {
     /// A case.
     #[cycle(statement)]
     fn case<C: Count>(&mut self, head: &CaseHead, arms: &[Stmt], visits: &mut C)
-        ensures goes { Goes (from_entry head.now.number (index_walk head.now (map statement_walk arms.now)))
+        ensures goes { WalkGoes (from_entry head.now.number (index_walk head.now (map statement_walk arms.now)))
             self.old self.new tt }
         ensures counts { visits.new ≡ all_counted C.counted (head.now.number
             ∷ (entries_of_expression head.now.index ++ statements_entries arms.now)) visits.old }
@@ -229,7 +227,8 @@ impl<'a> Walk<'a> {
         constants: &[Vec<i32>],
         visits: &mut C,
     )
-        ensures goes { Goes (arms_from_here index constants.now (map statement_walk arms.now)) self.old self.new tt }
+        ensures goes { WalkGoes (arms_from_here index constants.now (map statement_walk arms.now)) self.old self.new
+            tt }
         ensures counts { visits.new ≡ all_counted C.counted (statements_entries arms.now) visits.old }
     {
         let mark = self.flow.state.mark();
@@ -247,7 +246,7 @@ impl<'a> Walk<'a> {
     /// A with (ISO 7185:1990, 6.8.3.10).
     #[cycle(statement)]
     fn with_statement<C: Count>(&mut self, head: &WithHead, body: &Stmt, visits: &mut C)
-        ensures goes { Goes (from_entry head.now.number (with_walk head.now (statement_walk body.now)))
+        ensures goes { WalkGoes (from_entry head.now.number (with_walk head.now (statement_walk body.now)))
             self.old self.new tt }
         ensures counts { visits.new ≡ all_counted C.counted (head.now.number
             ∷ (flat_map entries_of_record head.now.records.items ++ entries_of_statement body.now)) visits.old }
@@ -259,7 +258,7 @@ impl<'a> Walk<'a> {
 
     /// The records of a with, each of which is accessed once.
     fn records<C: Count>(&mut self, records: &[WithRecord], visits: &mut C)
-        ensures goes { Goes (all_of (map record_walk records.now)) self.old self.new tt }
+        ensures goes { WalkGoes (all_of (map record_walk records.now)) self.old self.new tt }
         ensures counts { visits.new ≡ all_counted C.counted (flat_map entries_of_record records.now) visits.old }
     {
         for one in records {
@@ -269,7 +268,7 @@ impl<'a> Walk<'a> {
 
     /// A record of a with.
     pub fn record_of<C: Count>(&mut self, one: &WithRecord, visits: &mut C)
-        ensures goes { Goes (record_walk one.now) self.old self.new tt }
+        ensures goes { WalkGoes (record_walk one.now) self.old self.new tt }
         ensures counts { visits.new ≡ all_counted C.counted (entries_of_record one.now) visits.old }
     {
         let _reach = self.access(&one.access, &one.indexes, visits);
@@ -277,7 +276,7 @@ impl<'a> Walk<'a> {
 
     /// A call of a procedure.
     fn call<C: Count>(&mut self, calling: &ProcedureCall, visits: &mut C)
-        ensures goes { Goes (call_walk calling.now.call (map passed_piece_of calling.now.actuals.items))
+        ensures goes { WalkGoes (call_walk calling.now.call (map passed_piece_of calling.now.actuals.items))
             self.old self.new tt }
         ensures counts { visits.new ≡ all_counted C.counted (call_entries calling.now.call
             (map entries_of_passed calling.now.actuals.items)) visits.old }
@@ -287,7 +286,8 @@ impl<'a> Walk<'a> {
 
     /// A write.
     fn write<C: Count>(&mut self, writing: &Writing, visits: &mut C)
-        ensures goes { Goes (from_entry writing.now.number (all_of (map parameter_walk writing.now.parameters.items)))
+        ensures goes { WalkGoes (from_entry writing.now.number (all_of
+            (map parameter_walk writing.now.parameters.items)))
             self.old self.new tt }
         ensures counts { visits.new ≡ all_counted C.counted (writing.now.number
             ∷ flat_map entries_of_parameter writing.now.parameters.items) visits.old }
@@ -300,7 +300,7 @@ impl<'a> Walk<'a> {
 
     /// What is known of an expression's value.
     pub fn expression<C: Count>(&mut self, expression: &Expr, visits: &mut C) -> Known
-        ensures goes { Goes (value_walk expression.now) self.old self.new result }
+        ensures goes { WalkGoes (value_walk expression.now) self.old self.new result }
         ensures counts { visits.new ≡ all_counted C.counted (entries_of_expression expression.now) visits.old }
     {
         self.flow.expression(expression, visits)
@@ -313,7 +313,7 @@ impl<'a> Walk<'a> {
         indexes: &[Expr],
         visits: &mut C,
     ) -> Reach
-        ensures goes { Goes (access_walk access.now (index_pieces indexes.now)) self.old self.new
+        ensures goes { WalkGoes (access_walk access.now (index_pieces indexes.now)) self.old self.new
             (said_reach result) }
         ensures counts { visits.new ≡ all_counted C.counted (access_entries access.now (index_entries indexes.now))
             visits.old }
@@ -328,16 +328,16 @@ impl<'a> Walk<'a> {
         indexes: &[Expr],
         visits: &mut C,
     ) -> Vec<Interval>
-        ensures goes { Goes (whole_walk value.now (index_pieces indexes.now)) self.old self.new result.items }
+        ensures goes { WalkGoes (whole_walk value.now (index_pieces indexes.now)) self.old self.new result.items }
         ensures counts { visits.new ≡ all_counted C.counted (whole_entries value.now (index_entries indexes.now))
             visits.old }
     {
         self.flow.whole_value(value, indexes, visits)
     }
 
-    /// Goes on where a condition has a truth value.
+    /// WalkGoes on where a condition has a truth value.
     pub fn go_where(&mut self, condition: &Expr, known: &Known, truth: bool)
-        ensures { Goes (changed_by (where_so self.old.flow.state.table.now truth condition.now known.now))
+        ensures { WalkGoes (changed_by (where_so self.old.flow.state.table.now truth condition.now known.now))
             self.old self.new tt }
     {
         self.flow.state.branch(condition, known.range(), truth);
@@ -348,7 +348,7 @@ impl<'a> Walk<'a> {
 impl<'a> Walk<'a> {
     /// The test of an index, of a case with so many arms: it is one of the constants.
     pub fn test_index(&mut self, head: &CaseHead, arms: usize, range: Interval)
-        ensures { Goes (tested (is_covered range (constants_before arms head.now.constants.items)) head.now.site
+        ensures { WalkGoes (tested (is_covered range (constants_before arms head.now.constants.items)) head.now.site
             (common range (hull (constants_before arms head.now.constants.items)))) self.old self.new
             (common range (hull (constants_before arms head.now.constants.items))) }
     {

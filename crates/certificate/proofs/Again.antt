@@ -20,7 +20,7 @@ use Rattle.certificate.specs.Bounds.{bound_words, span_words}
 use Rattle.certificate.specs.declared.AliasPair.{AliasPair}
 use Rattle.certificate.specs.Building.{is_content, said_line}
 use Rattle.certificate.specs.Contents.{is_claim, is_constant, is_fact, is_path, is_plain, is_small, is_span}
-use Rattle.certificate.specs.Lines.{Claim, Alias, Change, Entry, Exit, Fact, Content, Block, Loop, Claimed, claim_of, claim_words, pair_of}
+use Rattle.certificate.specs.Lines.{ClaimLine, Alias, Change, Entry, Exit, Fact, Content, Block, Loop, Claimed, claim_of, claim_words, pair_of}
 use Rattle.certificate.specs.Lines.{defined_at, defined_fact, fact_of, fact_words, line_of, order_fact, range_fact, range_of}
 use Rattle.certificate.specs.Lines.{reading, spanned_fact}
 use Rattle.certificate.specs.Paths.{path_words}
@@ -108,7 +108,7 @@ pair_again version pair fits =
       number_again pair.second small.1,
     ) refl
 
-claim_again : (version : Version) (claim : Claim) → is_claim version claim ≡ true → claim_of version (claim_words claim) ≡ Ok claim
+claim_again : (version : Version) (claim : ClaimLine) → is_claim version claim ≡ true → claim_of version (claim_words claim) ≡ Ok claim
 claim_again version (Alias pair) fits = rw (pair_again version pair fits) refl
 claim_again version (Change root) fits = rw (number_again root fits) refl
 claim_again version (Entry fact) fits = rw (fact_again version fact fits) refl
@@ -116,7 +116,7 @@ claim_again version (Exit fact) fits = rw (fact_again version fact fits) refl
 claim_again version (Fact fact) fits = rw (fact_again version fact fits) refl
 
 -- no claim's line is a heading's
-claimed_again : (version : Version) (claim : Claim) → is_claim version claim ≡ true → reading version (claim_words claim) ≡ Ok (Claimed claim)
+claimed_again : (version : Version) (claim : ClaimLine) → is_claim version claim ≡ true → reading version (claim_words claim) ≡ Ok (Claimed claim)
 claimed_again version (Alias pair) fits = rw (claim_again version (Alias pair) fits) refl
 claimed_again version (Change root) fits = rw (claim_again version (Change root) fits) refl
 claimed_again version (Entry fact) fits = rw (claim_again version (Entry fact) fits) refl
@@ -149,7 +149,7 @@ fact_above version (Order root other number) fits =
     (above_append 10 (decimal other) _ (number_above 10 other (omega arith) bound.0) (constant_above 10 number (omega arith) bound.1))
 fact_above version (Grows root growth) fits = grow_above version root growth fits
 
-claim_above : (version : Version) (claim : Claim) → is_claim version claim ≡ true → are_above 10 (claim_words claim) ≡ true
+claim_above : (version : Version) (claim : ClaimLine) → is_claim version claim ≡ true → are_above 10 (claim_words claim) ≡ true
 claim_above version (Alias pair) fits =
     let small = and_parts (is_small pair.first) (is_small pair.second) fits in
     above_append 10 (decimal pair.first) _ (number_above 10 pair.first (omega arith) small.0) (number_above 10 pair.second (omega arith) small.1)

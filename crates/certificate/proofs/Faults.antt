@@ -9,7 +9,7 @@ use Rattle.domain.specs.declared.versions.Version.TheVariants.{One, Two}
 use Rattle.text_lines.specs.Lines.{Line, ended, lines}
 use Rattle.text_lines.specs.Numerals.{is_number}
 use Rattle.text_lines.proofs.Digits.{decimal-is_number}
-use Rattle.certificate.specs.Lines.{Claim, Alias, Change, Entry, Exit, Fact, Content, Block, Loop, Claimed}
+use Rattle.certificate.specs.Lines.{ClaimLine, Alias, Change, Entry, Exit, Fact, Content, Block, Loop, Claimed}
 use Rattle.certificate.specs.Text.{Above}
 use Rattle.certificate.specs.declared.fault.ReadFault.{ReadFault}
 use Rattle.certificate.specs.declared.fault.ReadFault.TheVariants.{OutOfOrder}
@@ -27,7 +27,8 @@ heading_number : (n : ℕ) → is_small n ≡ true → is_number (decimal n) ≡
 heading_number n small = let limit = small_is n small in decimal-is_number n (omega arith)
 
 -- a claim's line is no heading
-no_word : (claim : Claim) → (is_heading (codes "proc ") (said_line (Claimed claim)) ≡ false) × (is_heading (codes "loop ") (said_line (Claimed claim)) ≡ false)
+no_word : (claim : ClaimLine) → (is_heading (codes "proc ") (said_line (Claimed claim)) ≡ false) ×
+    (is_heading (codes "loop ") (said_line (Claimed claim)) ≡ false)
 no_word (Alias pair) = (refl, refl)
 no_word (Change root) = (refl, refl)
 no_word (Entry fact) = (refl, refl)

@@ -4,7 +4,7 @@ use Rattle.std.specs.List.{flat_map}
 use Rattle.std.specs.Option.{is_some}
 use Rattle.std.specs.Ordering.{nat_cmp}
 use Rattle.domain.specs.declared.versions.Version.{Version}
-use Rattle.certificate.specs.Lines.{Claim, Content, Block, Loop, Claimed}
+use Rattle.certificate.specs.Lines.{ClaimLine, Content, Block, Loop, Claimed}
 use Rattle.certificate.specs.Text.{Above}
 use Rattle.certificate.specs.Building.{is_content}
 use Rattle.certificate.specs.Contents.{LoopClaims, Section, are_claims, are_in_order, are_listed, claim_order, claims_of_block, claims_of_loop}
@@ -43,18 +43,18 @@ ends_section (Block number ∷ more) = true
 ends_section (Loop number ∷ more) = false
 ends_section (Claimed claim ∷ more) = false
 
-abbrev at : Option ℕ → Option ℕ → Option Claim → Above
+abbrev at : Option ℕ → Option ℕ → Option ClaimLine → Above
 at block number claim = record { block = block; loop_number = number; claim = claim }
 
 -- what is said behind claims doesn't hang on them, and what is said behind a block not on its loops
-claims_forgotten : (version : Version) (b n : Option ℕ) (c d : Option Claim) (rest : List Content) → ends_claims rest ≡ true
+claims_forgotten : (version : Version) (b n : Option ℕ) (c d : Option ClaimLine) (rest : List Content) → ends_claims rest ≡ true
     → orderly version (at b n c) rest ≡ orderly version (at b n d) rest
 claims_forgotten version b n c d [] ends = refl
 claims_forgotten version b n c d (Block number ∷ rest) ends = refl
 claims_forgotten version b n c d (Loop number ∷ rest) ends = refl
 claims_forgotten version b n c d (Claimed claim ∷ rest) ends = absurd cc
 
-section_forgotten : (version : Version) (b m n : Option ℕ) (c d : Option Claim) (rest : List Content) → ends_section rest ≡ true
+section_forgotten : (version : Version) (b m n : Option ℕ) (c d : Option ClaimLine) (rest : List Content) → ends_section rest ≡ true
     → orderly version (at b m c) rest ≡ orderly version (at b n d) rest
 section_forgotten version b m n c d [] ends = refl
 section_forgotten version b m n c d (Block number ∷ rest) ends = refl
@@ -72,7 +72,7 @@ claim_and true false false claims rest = refl
 claim_and false stands true claims rest = refl
 claim_and false stands false claims rest = refl
 
-claims_in_order : (version : Version) (b : ℕ) (n : Option ℕ) (last : Option Claim) (claims : List Claim) (rest : List Content) → ends_claims rest ≡ true
+claims_in_order : (version : Version) (b : ℕ) (n : Option ℕ) (last : Option ClaimLine) (claims : List ClaimLine) (rest : List Content) → ends_claims rest ≡ true
     → orderly version (at (Some b) n last) (map Claimed claims ++ rest)
     ≡ (are_listed claim_order (λ claim. claim) (is_right version (is_some n)) last claims && orderly version (at (Some b) n None) rest)
 claims_in_order version b n last [] rest ends = claims_forgotten version (Some b) n last None rest ends
@@ -83,7 +83,7 @@ claims_in_order version b n last (claim ∷ claims) rest ends =
 
 -- ---- loops
 
-loop_has_line : (n : ℕ) (claims : List Claim) (rest : List Content) → ends_claims rest ≡ true
+loop_has_line : (n : ℕ) (claims : List ClaimLine) (rest : List Content) → ends_claims rest ≡ true
     → has_line (Loop n) (map Claimed claims ++ rest) ≡ not (is_empty claims)
 loop_has_line n [] [] ends = refl
 loop_has_line n [] (Block number ∷ rest) ends = refl
@@ -99,7 +99,7 @@ loop_and true false some claims rest = refl
 loop_and false true some claims rest = refl
 loop_and false false some claims rest = refl
 
-loop_in_order : (version : Version) (b : ℕ) (n : Option ℕ) (last : Option Claim) (claims : LoopClaims) (rest : List Content) → ends_claims rest ≡ true
+loop_in_order : (version : Version) (b : ℕ) (n : Option ℕ) (last : Option ClaimLine) (claims : LoopClaims) (rest : List Content) → ends_claims rest ≡ true
     → orderly version (at (Some b) n last) (lines_of_loop claims ++ rest)
     ≡ (comes_behind nat_cmp n claims.number && (is_loop version claims && orderly version (at (Some b) (Some claims.number) None) rest))
 loop_in_order version b n last claims rest ends =
@@ -126,7 +126,7 @@ and_and true true more rest = refl
 and_and true false more rest = refl
 and_and false right more rest = refl
 
-loops_in_order : (version : Version) (b : ℕ) (n : Option ℕ) (last : Option Claim) (loops : List LoopClaims) (rest : List Content) → ends_section rest ≡ true
+loops_in_order : (version : Version) (b : ℕ) (n : Option ℕ) (last : Option ClaimLine) (loops : List LoopClaims) (rest : List Content) → ends_section rest ≡ true
     → orderly version (at (Some b) n last) (flat_map lines_of_loop loops ++ rest)
     ≡ (are_listed nat_cmp (λ claims. claims.number) (is_loop version) n loops && orderly version (at (Some b) None None) rest)
 loops_in_order version b n last [] rest ends = section_forgotten version (Some b) n None last None rest ends
@@ -140,7 +140,7 @@ loops_in_order version b n last (claims ∷ loops) rest ends =
 
 -- ---- sections
 
-section_has_line : (b : ℕ) (claims : List Claim) (loops : List LoopClaims) (rest : List Content) → ends_section rest ≡ true
+section_has_line : (b : ℕ) (claims : List ClaimLine) (loops : List LoopClaims) (rest : List Content) → ends_section rest ≡ true
     → has_line (Block b) (map Claimed claims ++ (flat_map lines_of_loop loops ++ rest)) ≡ not (is_empty claims && is_empty loops)
 section_has_line b [] [] [] ends = refl
 section_has_line b [] [] (Block number ∷ rest) ends = refl
@@ -158,7 +158,7 @@ section_and true false some claims loops rest = refl
 section_and false true some claims loops rest = refl
 section_and false false some claims loops rest = refl
 
-section_in_order : (version : Version) (b n : Option ℕ) (last : Option Claim) (section : Section) (rest : List Content) → ends_section rest ≡ true
+section_in_order : (version : Version) (b n : Option ℕ) (last : Option ClaimLine) (section : Section) (rest : List Content) → ends_section rest ≡ true
     → orderly version (at b n last) (lines_of_section section ++ rest)
     ≡ (comes_behind nat_cmp b section.block && (is_section version section && orderly version (at (Some section.block) None None) rest))
 section_in_order version b n last section rest ends =
@@ -179,7 +179,7 @@ sections_end : (sections : List Section) → ends_section (lines_of sections) �
 sections_end [] = refl
 sections_end (section ∷ sections) = refl
 
-sections_in_order : (version : Version) (b n : Option ℕ) (last : Option Claim) (sections : List Section)
+sections_in_order : (version : Version) (b n : Option ℕ) (last : Option ClaimLine) (sections : List Section)
     → orderly version (at b n last) (lines_of sections) ≡ are_listed nat_cmp (λ section. section.block) (is_section version) b sections
 sections_in_order version b n last [] = refl
 sections_in_order version b n last (section ∷ sections) =

@@ -3,7 +3,7 @@ use Rattle.std.proofs.Common.{◌≡◌, ℕ, suc, zero, ◌-◌, ◌<◌, false
 use Rattle.certificate.specs.declared.LoopClaims.{LoopClaims as KeptLoop}
 use Rattle.certificate.specs.declared.claim.Content.{Content as KeptContent}
 use Rattle.certificate.specs.declared.claim.Content.TheVariants as kept
-use Rattle.certificate.specs.Lines.{Claim}
+use Rattle.certificate.specs.Lines.{ClaimLine}
 use Rattle.certificate.specs.Contents.{LoopClaims, Section, is_empty, loop_of}
 use Rattle.certificate.specs.Building.{added, in_last, in_loop, in_section, said_content, with_claim}
 
@@ -23,7 +23,7 @@ last_changed view change xs len one y all some is changed =
     changed_at view change xs one y (len - 1) (omega arith) (changed ∙ ap (λ x. change (view x)) is)
 
 -- a claim goes to the last loop of a section that has one
-pub in_last_loop : (claim : Claim) (section : Section) (loops : List LoopClaims) → is_empty section.loops ≡ false
+pub in_last_loop : (claim : ClaimLine) (section : Section) (loops : List LoopClaims) → is_empty section.loops ≡ false
     → loops ≡ in_last (in_loop claim) section.loops → record section { loops = loops } ≡ with_claim claim section
 in_last_loop claim section loops some is = rw some (ap (λ (l : List LoopClaims). record section { loops = l }) is)
 

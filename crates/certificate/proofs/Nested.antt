@@ -5,7 +5,7 @@ use Rattle.std.specs.Option.{is_some}
 use Rattle.std.proofs.lemmas.Bool.{and_from, and_parts}
 use Rattle.std.proofs.lemmas.List.{append-nil}
 use Rattle.domain.specs.declared.versions.Version.{Version}
-use Rattle.certificate.specs.Lines.{Claim, Alias, Change, Entry, Exit, Fact, Content, Block, Loop, Claimed}
+use Rattle.certificate.specs.Lines.{ClaimLine, Alias, Change, Entry, Exit, Fact, Content, Block, Loop, Claimed}
 use Rattle.certificate.specs.Text.{Above}
 use Rattle.certificate.specs.Building.{added, begun, built, in_last, in_loop, in_section, is_content, with_claim}
 use Rattle.certificate.specs.Contents.{LoopClaims, Section, are_listed, claim_order, claims_of_block, claims_of_loop, comes_behind, is_right}
@@ -20,7 +20,7 @@ pub built-append : (sections : List Section) (front back : List Content) → bui
 built-append sections [] back = refl
 built-append sections (content ∷ front) back = built-append (added content sections) front back
 
-claims-append : (sections : List Section) (front back : List Claim)
+claims-append : (sections : List Section) (front back : List ClaimLine)
     → built sections (map Claimed (front ++ back)) ≡ built (built sections (map Claimed front)) (map Claimed back)
 claims-append sections [] back = refl
 claims-append sections (claim ∷ front) back = claims-append (added (Claimed claim) sections) front back
@@ -31,7 +31,7 @@ last_snoc change (one ∷ []) last = refl
 last_snoc change (one ∷ next ∷ more) last = ap (λ rest. one ∷ rest) (last_snoc change (next ∷ more) last)
 
 -- claims of one word go into one list of the last section
-built_list : {A : Type 0} (made : A → Claim) (filled : List A → Section)
+built_list : {A : Type 0} (made : A → ClaimLine) (filled : List A → Section)
     → ((front : List A) (one : A) → with_claim (made one) (filled front) ≡ filled (front ++ one ∷ []))
     → (sections : List Section) (front more : List A)
     → built (sections ++ filled front ∷ []) (map Claimed (map made more)) ≡ sections ++ filled (front ++ more) ∷ []
@@ -43,7 +43,7 @@ built_list made filled one_more sections front (one ∷ more) =
     ∙ ap (λ all. sections ++ filled all ∷ []) (append_assoc front (one ∷ []) more)
 
 -- a claim of the last loop of a section
-in_last_loop : (claim : Claim) (section : Section) (loops : List LoopClaims) (last : LoopClaims)
+in_last_loop : (claim : ClaimLine) (section : Section) (loops : List LoopClaims) (last : LoopClaims)
     → with_claim claim (record section { loops = loops ++ last ∷ [] }) ≡ record section { loops = loops ++ in_loop claim last ∷ [] }
 in_last_loop claim section [] last = refl
 in_last_loop claim section (one ∷ loops) last = ap (λ (l : List LoopClaims). record section { loops = l }) (last_snoc (in_loop claim) (one ∷ loops) last)
@@ -113,7 +113,7 @@ built_again sections = built_sections [] sections
 
 -- what is said before the first heading, the loops before the first block, and the sections
 record Parts : Type 0 where
-  claims : List Claim
+  claims : List ClaimLine
   loops : List LoopClaims
   sections : List Section
 

@@ -22,7 +22,7 @@ use Rattle.certificate.specs.Bounds.{spans_of}
 use Rattle.certificate.specs.declared.AliasPair.{AliasPair}
 use Rattle.certificate.specs.Building.{is_content}
 use Rattle.certificate.specs.Contents.{is_claim, is_constant, is_fact, is_path, is_plain, is_small}
-use Rattle.certificate.specs.Lines.{Claim, Alias, Change, Entry, Exit, Fact, Content, Block, Loop, Claimed, claim_of, claim_words, pair_of}
+use Rattle.certificate.specs.Lines.{ClaimLine, Alias, Change, Entry, Exit, Fact, Content, Block, Loop, Claimed, claim_of, claim_words, pair_of}
 use Rattle.certificate.specs.Lines.{defined_at, defined_fact, fact_of, fact_words, grow_fact, line_of, order_fact, range_fact, range_of}
 use Rattle.certificate.specs.Lines.{reading, spanned_fact}
 use Rattle.certificate.specs.Paths.{path_of, path_words}
@@ -196,11 +196,11 @@ module _ {C A : Type 0} (spelled : C → List ℕ) (is_right : C → Bool) (word
         | inr rest ↦ others rest
       ]
 
-no_words : (version : Version) (line : List ℕ) (claim : Claim) → (let fault : Result Claim LineFault = Err NotInGrammar in fault ≡ Ok claim)
+no_words : (version : Version) (line : List ℕ) (claim : ClaimLine) → (let fault : Result ClaimLine LineFault = Err NotInGrammar in fault ≡ Ok claim)
     → (line ≡ claim_words claim) × (is_claim version claim ≡ true)
 no_words version line claim e = absurd cc
 
-claim_spelled : (version : Version) (line : List ℕ) (claim : Claim) → claim_of version line ≡ Ok claim
+claim_spelled : (version : Version) (line : List ℕ) (claim : ClaimLine) → claim_of version line ≡ Ok claim
     → (line ≡ claim_words claim) × (is_claim version claim ≡ true)
 claim_spelled version line claim e =
     when_spelled claim_words (is_claim version) (codes "alias ") Alias (λ pair. variable pair.first ++ 32 ∷ variable pair.second)

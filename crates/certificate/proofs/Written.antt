@@ -4,7 +4,7 @@ use Rattle.std.specs.List.{flat_map}
 use Rattle.std.proofs.lemmas.Grind.{flat_map-append}
 use Rattle.domain.specs.declared.versions.Version.{Version}
 use Rattle.text_lines.specs.Lines.{ended}
-use Rattle.certificate.specs.Lines.{Claim, Alias, Change, Entry, Exit, Fact, Content, Block, Loop, Claimed, claim_words, line_of}
+use Rattle.certificate.specs.Lines.{ClaimLine, Alias, Change, Entry, Exit, Fact, Content, Block, Loop, Claimed, claim_words, line_of}
 use Rattle.certificate.specs.Contents.{LoopClaims, Section, claims_of_block, claims_of_loop, heading, lines_of, lines_of_loop}
 use Rattle.certificate.specs.Contents.{lines_of_section, spelling}
 use Rattle.certificate.specs.Writing.{alias_line, change_line, fact_line, loop_text, section_text}
@@ -14,7 +14,7 @@ abbrev text_of : List Content → List ℕ
 text_of lines = flat_map (λ content. ended (line_of content)) lines
 
 -- the text of claims
-abbrev claims_text : List Claim → List ℕ
+abbrev claims_text : List ClaimLine → List ℕ
 claims_text claims = flat_map (λ claim. ended (claim_words claim)) claims
 
 flat_map-map : {X Y A : Type 0} (f : Y → List A) (g : X → Y) (xs : List X) → flat_map f (map g xs) ≡ flat_map (λ x. f (g x)) xs
@@ -36,14 +36,14 @@ block_text section =
     ++ (flat_map change_line section.changes
     ++ (flat_map (fact_line (codes "entry ")) section.entry ++ flat_map (fact_line (codes "exit ")) section.exit))
 
-claimed : (claims : List Claim) → claims_text claims ≡ text_of (map Claimed claims)
+claimed : (claims : List ClaimLine) → claims_text claims ≡ text_of (map Claimed claims)
 claimed claims = sym (flat_map-map (λ content. ended (line_of content)) Claimed claims)
 
 -- claims of one word
-of_word : {X : Type 0} (claim : X → Claim) (xs : List X) → flat_map (λ x. ended (claim_words (claim x))) xs ≡ claims_text (map claim xs)
+of_word : {X : Type 0} (claim : X → ClaimLine) (xs : List X) → flat_map (λ x. ended (claim_words (claim x))) xs ≡ claims_text (map claim xs)
 of_word claim xs = sym (flat_map-map (λ claim. ended (claim_words claim)) claim xs)
 
-joined : (first more : List Claim) (front rest : List ℕ) → front ≡ claims_text first → rest ≡ claims_text more
+joined : (first more : List ClaimLine) (front rest : List ℕ) → front ≡ claims_text first → rest ≡ claims_text more
     → front ++ rest ≡ claims_text (first ++ more)
 joined first more front rest first_is more_is =
     ap (λ text. text ++ rest) first_is

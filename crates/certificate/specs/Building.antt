@@ -14,15 +14,15 @@ use Rattle.certificate.specs.declared.Section.{Section as KeptSection}
 use Rattle.certificate.specs.declared.paths.PathWord.{PathWord}
 use Rattle.certificate.specs.declared.fact_words.FactWords.{FactWords}
 use Rattle.certificate.specs.declared.fact_words.FactWords.TheVariants as word
-use Rattle.certificate.specs.declared.claim.Claim.{Claim as KeptClaim}
-use Rattle.certificate.specs.declared.claim.Claim.TheVariants as kept
+use Rattle.certificate.specs.declared.claim.ClaimLine.{ClaimLine as KeptClaim}
+use Rattle.certificate.specs.declared.claim.ClaimLine.TheVariants as kept
 use Rattle.certificate.specs.declared.claim.Content.{Content as KeptContent}
 use Rattle.certificate.specs.declared.claim.Content.TheVariants as kept_content
 use Rattle.certificate.specs.declared.order.Above.{Above as KeptAbove}
 use Rattle.certificate.specs.declared.fault.ReadFault.{ReadFault}
 use Rattle.certificate.specs.declared.fault.ReadFault.TheVariants.{Memory}
 use Rattle.certificate.specs.Paths.{cut, step_in}
-use Rattle.certificate.specs.Lines.{Claim, Alias, Change, Entry, Exit, Fact, Content, Block, Loop, Claimed, line_of}
+use Rattle.certificate.specs.Lines.{ClaimLine, Alias, Change, Entry, Exit, Fact, Content, Block, Loop, Claimed, line_of}
 use Rattle.certificate.specs.Lines.{reading}
 use Rattle.certificate.specs.Contents.{LoopClaims, Section, is_claim, is_empty, is_small, section_of}
 use Rattle.certificate.specs.Text.{Above, fault_from, line_fault, nothing}
@@ -47,14 +47,14 @@ word_fact (word.Defined path spans) = Defined (word_path path) (said_spans spans
 word_fact (word.Order root other number) = Order root other number
 word_fact (word.Grows root growth) = Grows root growth
 
-abbrev pub word_claim : KeptClaim → Claim
+abbrev pub word_claim : KeptClaim → ClaimLine
 word_claim (kept.Alias pair) = Alias pair
 word_claim (kept.Change root) = Change root
 word_claim (kept.Entry fact) = Entry (word_fact fact)
 word_claim (kept.Exit fact) = Exit (word_fact fact)
 word_claim (kept.Fact fact) = Fact (word_fact fact)
 
-abbrev pub word_claims : Option KeptClaim → Option Claim
+abbrev pub word_claims : Option KeptClaim → Option ClaimLine
 word_claims None = None
 word_claims (Some claim) = Some (word_claim claim)
 
@@ -75,13 +75,13 @@ in_last change (last ∷ []) = change last ∷ []
 in_last change (one ∷ next ∷ more) = one ∷ in_last change (next ∷ more)
 
 -- the claims of a loop with one more
-abbrev pub in_loop : Claim → LoopClaims → LoopClaims
+abbrev pub in_loop : ClaimLine → LoopClaims → LoopClaims
 in_loop (Change root) claims = record claims { changes = claims.changes ++ root ∷ [] }
 in_loop (Fact fact) claims = record claims { facts = claims.facts ++ fact ∷ [] }
 in_loop claim claims = claims
 
 -- a section with one more claim of the block itself
-abbrev pub in_block : Claim → Section → Section
+abbrev pub in_block : ClaimLine → Section → Section
 in_block (Alias pair) section = record section { aliases = section.aliases ++ pair ∷ [] }
 in_block (Change root) section = record section { changes = section.changes ++ root ∷ [] }
 in_block (Entry fact) section = record section { entry = section.entry ++ fact ∷ [] }
@@ -89,7 +89,7 @@ in_block (Exit fact) section = record section { exit = section.exit ++ fact ∷ 
 in_block (Fact fact) section = section
 
 -- a section with one more claim: of its last loop, if it has one
-abbrev pub with_claim : Claim → Section → Section
+abbrev pub with_claim : ClaimLine → Section → Section
 with_claim claim section =
     if is_empty section.loops then in_block claim section
     else record section { loops = in_last (in_loop claim) section.loops }

@@ -28,7 +28,7 @@ use Rattle.certificate.specs.declared.fault.ReadFault.{ReadFault}
 use Rattle.certificate.specs.declared.fault.ReadFault.TheVariants.{Memory}
 use Rattle.certificate.specs.Words.{most, maxint}
 use Rattle.certificate.specs.Paths.{is_name}
-use Rattle.certificate.specs.Lines.{Claim, Alias, Change, Entry, Exit, Fact, Content, Block, Loop, Claimed, ascends}
+use Rattle.certificate.specs.Lines.{ClaimLine, Alias, Change, Entry, Exit, Fact, Content, Block, Loop, Claimed, ascends}
 use Rattle.certificate.specs.Lines.{line_of}
 
 -- what is claimed of a loop: what it changes, and the facts that hold whenever a turn begins
@@ -119,7 +119,7 @@ is_fact version (Order root other number) = is_small root && (is_small other && 
 is_fact version (Grows root growth) = has version Growths && (is_small root && is_growth growth)
 
 -- a claim's numbers are in range, and its facts right
-abbrev pub is_claim : Version → Claim → Bool
+abbrev pub is_claim : Version → ClaimLine → Bool
 is_claim version (Alias pair) = is_small pair.first && is_small pair.second
 is_claim version (Change root) = is_small root
 is_claim version (Entry fact) = is_fact version fact
@@ -127,20 +127,20 @@ is_claim version (Exit fact) = is_fact version fact
 is_claim version (Fact fact) = is_fact version fact
 
 -- a claim is one of a loop, or of a block itself, with the smaller variable of a pair first
-abbrev pub may_stand : (in_loop : Bool) → Claim → Bool
+abbrev pub may_stand : (in_loop : Bool) → ClaimLine → Bool
 may_stand in_loop (Alias pair) = not in_loop && nat_lt pair.first pair.second
 may_stand in_loop (Change root) = true
 may_stand in_loop (Entry fact) = not in_loop
 may_stand in_loop (Exit fact) = not in_loop
 may_stand in_loop (Fact fact) = in_loop
 
-abbrev pub is_right : Version → (in_loop : Bool) → Claim → Bool
+abbrev pub is_right : Version → (in_loop : Bool) → ClaimLine → Bool
 is_right version in_loop claim = is_claim version claim && may_stand in_loop claim
 
 -- ---- the order
 
 -- the place of a claim's word among the words
-abbrev pub word_place : Claim → ℕ
+abbrev pub word_place : ClaimLine → ℕ
 word_place (Alias pair) = 0
 word_place (Change root) = 1
 word_place (Entry fact) = 2
@@ -151,7 +151,7 @@ abbrev pub pair_order : AliasPair → AliasPair → Ordering
 pair_order a b = ordering_then (nat_cmp a.first b.first) (nat_cmp a.second b.second)
 
 -- claims of one word, by what they say something of
-abbrev pub order_in_word : Claim → Claim → Ordering
+abbrev pub order_in_word : ClaimLine → ClaimLine → Ordering
 order_in_word (Alias a) (Alias b) = pair_order a b
 order_in_word (Change a) (Change b) = nat_cmp a b
 order_in_word (Entry a) (Entry b) = subject_order a b
@@ -160,7 +160,7 @@ order_in_word (Fact a) (Fact b) = subject_order a b
 order_in_word a b = Equal
 
 -- by words, and then by what they say something of
-abbrev pub claim_order : Claim → Claim → Ordering
+abbrev pub claim_order : ClaimLine → ClaimLine → Ordering
 claim_order a b = ordering_then (nat_cmp (word_place a) (word_place b)) (order_in_word a b)
 
 -- something comes behind the last one
@@ -179,17 +179,17 @@ is_empty [] = true
 is_empty (one ∷ more) = false
 
 -- the claims of a loop: its changes, then its facts
-abbrev pub claims_of_loop : LoopClaims → List Claim
+abbrev pub claims_of_loop : LoopClaims → List ClaimLine
 claims_of_loop claims = map Change claims.changes ++ map Fact claims.facts
 
 -- the claims of a block itself: its pairs, then its changes, then the facts where it begins and where it ends
-abbrev pub claims_of_block : Section → List Claim
+abbrev pub claims_of_block : Section → List ClaimLine
 claims_of_block section =
     map Alias section.aliases
     ++ (map Change section.changes ++ (map Entry section.entry ++ map Exit section.exit))
 
 -- claims of a loop, or of a block itself, are in order
-abbrev pub are_claims : Version → (in_loop : Bool) → List Claim → Bool
+abbrev pub are_claims : Version → (in_loop : Bool) → List ClaimLine → Bool
 are_claims version in_loop claims = are_listed claim_order (λ claim. claim) (is_right version in_loop) None claims
 
 -- something is claimed of a loop, in order

@@ -5,13 +5,13 @@ use Rattle.certificate.specs.declared.fault.ReadFault.TheVariants.{Memory, First
 use Rattle.certificate.specs.declared.fault.ReadFault.TheVariants.{OutOfRange, Unended}
 
 -- the number of a fault behind the letter F, and 0 for want of memory
-abbrev pub number_of : ReadFault → ℕ
-number_of (Memory _) = 0
-number_of (FirstLine line) = 1
-number_of (NotInGrammar line) = 2
-number_of (OutOfOrder line) = 3
-number_of (OutOfRange line) = 4
-number_of (Unended line) = 5
+abbrev pub code_of : ReadFault → ℕ
+code_of (Memory _) = 0
+code_of (FirstLine line) = 1
+code_of (NotInGrammar line) = 2
+code_of (OutOfOrder line) = 3
+code_of (OutOfRange line) = 4
+code_of (Unended line) = 5
 
 -- the line of a fault
 abbrev pub line_of : ReadFault → Option ℕ

@@ -23,18 +23,18 @@ use Rattle.certificate.specs.Bounds.{span_words, spans_of}
 
 -- what is claimed of a block: two variables may share a place in it; it changes a variable; a fact holds where it
 -- begins, or where it ends; or of a loop: it changes a variable; a fact holds whenever a turn of it begins
-pub data Claim : Type 0 where
-  Alias : AliasPair → Claim
-  Change : (root : ℕ) → Claim
-  Entry : VariableFact → Claim
-  Exit : VariableFact → Claim
-  Fact : VariableFact → Claim
+pub data ClaimLine : Type 0 where
+  Alias : AliasPair → ClaimLine
+  Change : (root : ℕ) → ClaimLine
+  Entry : VariableFact → ClaimLine
+  Exit : VariableFact → ClaimLine
+  Fact : VariableFact → ClaimLine
 
 -- what a line says: the lines below it are of a block, or of a loop; or something is claimed of the last one
 pub data Content : Type 0 where
   Block : (number : ℕ) → Content
   Loop : (number : ℕ) → Content
-  Claimed : Claim → Content
+  Claimed : ClaimLine → Content
 
 -- ---- how a line is spelled
 
@@ -55,7 +55,7 @@ fact_words (Order root other number) =
 fact_words (Grows root growth) = codes "grow " ++ variable root ++ 32 ∷ growth_words growth
 
 -- the words of a claim
-abbrev pub claim_words : Claim → List ℕ
+abbrev pub claim_words : ClaimLine → List ℕ
 claim_words (Alias pair) = codes "alias " ++ variable pair.first ++ 32 ∷ variable pair.second
 claim_words (Change root) = codes "change " ++ variable root
 claim_words (Entry fact) = codes "entry " ++ fact_words fact
@@ -159,7 +159,7 @@ pair_of words = do
   Ok (record { first = roots.0; second = roots.1 })
 
 -- a claim, by the word that the line begins with
-abbrev pub claim_of : Version → List ℕ → Result Claim LineFault
+abbrev pub claim_of : Version → List ℕ → Result ClaimLine LineFault
 claim_of version line =
     when (behind (codes "alias ") line) (λ words. pair_of words >>= λ pair. Ok (Alias pair))
     (when (behind (codes "change ") line) (λ word. variable_of word >>= λ root. Ok (Change root))

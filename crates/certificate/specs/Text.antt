@@ -15,7 +15,7 @@ use Rattle.certificate.specs.declared.words.LineFault.TheVariants as line
 use Rattle.certificate.specs.declared.fault.ReadFault.{ReadFault}
 use Rattle.certificate.specs.declared.fault.ReadFault.TheVariants.{FirstLine, NotInGrammar, OutOfOrder, OutOfRange}
 use Rattle.certificate.specs.declared.fault.ReadFault.TheVariants.{Unended}
-use Rattle.certificate.specs.Lines.{Claim, Content, Block, Loop, Claimed, reading}
+use Rattle.certificate.specs.Lines.{ClaimLine, Content, Block, Loop, Claimed, reading}
 use Rattle.certificate.specs.Contents.{claim_order, comes_behind, heading, may_stand}
 
 -- ---- where a line may stand
@@ -24,7 +24,7 @@ use Rattle.certificate.specs.Contents.{claim_order, comes_behind, heading, may_s
 pub record Above : Type 0 where
   pub block : Option ℕ
   pub loop_number : Option ℕ
-  pub claim : Option Claim
+  pub claim : Option ClaimLine
 
 -- below the heading of a text
 abbrev pub nothing : Above

@@ -6,8 +6,7 @@ ghost use Rattle.certificate.specs.Bounds as spec;
 ghost use Rattle.certificate.specs.Bounds.{is_sign};
 
 use crate::words::{LineFault, both, constant_of, lowered_of, parted, positive_of, variable_of};
-use domain::facts::{Bound, Span, Spans};
-use domain::versions::{Extension, Version};
+use domain::{Bound, Extension, Span, Spans, Version};
 use text_lines::words::blank;
 
 /// The spans that words tell in a certificate of a version: one, or two where the version has blocks.

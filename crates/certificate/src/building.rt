@@ -3,7 +3,7 @@ ghost use Rattle.certificate.specs.Building.{added, begun, in_block, in_loop, in
 ghost use Rattle.certificate.specs.Building.{word_claim};
 ghost use Rattle.certificate.specs.Contents.{loop_of, section_of};
 
-use crate::claim::{Claim, Content};
+use crate::claim::{ClaimLine, Content};
 use crate::{LoopClaims, Section};
 use std::alloc::{AllocError, Global};
 
@@ -65,7 +65,7 @@ fn add_to_section(
 }
 
 /// Adds a claim to the last loop of a section, or to the block itself where there is none yet.
-fn add_claim(alloc: Global, section: &mut Section, claim: &Claim<'_>) -> Result<(), AllocError>
+fn add_claim(alloc: Global, section: &mut Section, claim: &ClaimLine<'_>) -> Result<(), AllocError>
     ensures { OnOk result (section_of section.new ≡ with_claim (word_claim claim.now) (section_of section.old)) }
 {
     if section.loops.is_empty() {
@@ -78,27 +78,35 @@ fn add_claim(alloc: Global, section: &mut Section, claim: &Claim<'_>) -> Result<
 }
 
 /// Adds a claim to those of a block itself.
-fn add_to_block(alloc: Global, section: &mut Section, claim: &Claim<'_>) -> Result<(), AllocError>
+fn add_to_block(
+    alloc: Global,
+    section: &mut Section,
+    claim: &ClaimLine<'_>,
+) -> Result<(), AllocError>
     ensures { OnOk result (section_of section.new ≡ in_block (word_claim claim.now) (section_of section.old)) }
 {
     match claim {
-        Claim::Alias(pair) => section.aliases.push(*pair)?,
-        Claim::Change(root) => section.changes.push(*root)?,
-        Claim::Entry(fact) => section.entry.push(fact.kept(alloc)?)?,
-        Claim::Exit(fact) => section.exit.push(fact.kept(alloc)?)?,
-        Claim::Fact(_) => {}
+        ClaimLine::Alias(pair) => section.aliases.push(*pair)?,
+        ClaimLine::Change(root) => section.changes.push(*root)?,
+        ClaimLine::Entry(fact) => section.entry.push(fact.kept(alloc)?)?,
+        ClaimLine::Exit(fact) => section.exit.push(fact.kept(alloc)?)?,
+        ClaimLine::Fact(_) => {}
     }
     Ok(())
 }
 
 /// Adds a claim to those of a loop.
-fn add_to_loop(alloc: Global, claims: &mut LoopClaims, claim: &Claim<'_>) -> Result<(), AllocError>
+fn add_to_loop(
+    alloc: Global,
+    claims: &mut LoopClaims,
+    claim: &ClaimLine<'_>,
+) -> Result<(), AllocError>
     ensures { OnOk result (loop_of claims.new ≡ in_loop (word_claim claim.now) (loop_of claims.old)) }
 {
     match claim {
-        Claim::Change(root) => claims.changes.push(*root)?,
-        Claim::Fact(fact) => claims.facts.push(fact.kept(alloc)?)?,
-        Claim::Alias(_) | Claim::Entry(_) | Claim::Exit(_) => {}
+        ClaimLine::Change(root) => claims.changes.push(*root)?,
+        ClaimLine::Fact(fact) => claims.facts.push(fact.kept(alloc)?)?,
+        ClaimLine::Alias(_) | ClaimLine::Entry(_) | ClaimLine::Exit(_) => {}
     }
     Ok(())
 }

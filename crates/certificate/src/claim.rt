@@ -4,15 +4,14 @@ ghost use Rattle.certificate.specs.Building.{said_content, word_claim};
 ghost use Rattle.certificate.specs.Contents.{claim_order, may_stand, order_in_word, word_place};
 ghost use Rattle.certificate.specs.Lines as spec;
 
-use crate::AliasPair;
 use crate::fact_words::{FactWords, fact_of};
-use crate::words::{LineFault, both, number_of, parted, variable_of};
-use domain::versions::Version;
+use crate::{AliasPair, LineFault, both, number_of, parted, variable_of};
+use domain::Version;
 use std::cmp::Ordering;
 
 /// What is claimed of a block itself, or of a loop.
 #[derive(Clone, Copy)]
-pub(crate) enum Claim<'a> {
+pub(crate) enum ClaimLine<'a> {
     /// `alias V V`: both variables may share a place in the block.
     Alias(AliasPair),
     /// `change V`: the block or the loop changes the variable of that root number.
@@ -33,12 +32,12 @@ pub(crate) enum Content<'a> {
     /// `loop N`: the lines below it are of the loop of that number.
     Loop(u32),
     /// Something is claimed of the last of these.
-    Claimed(Claim<'a>),
+    Claimed(ClaimLine<'a>),
 }
 
-impl<'a> Claim<'a> {
+impl<'a> ClaimLine<'a> {
     /// How the claim stands to another in the order of claims: by their words, and then by what they say something of.
-    pub(crate) fn compare(&self, other: &Claim<'_>) -> Ordering
+    pub(crate) fn compare(&self, other: &ClaimLine<'_>) -> Ordering
         ensures { result ≡ claim_order (word_claim self.now) (word_claim other.now) }
     {
         self.word_place()
@@ -51,27 +50,27 @@ impl<'a> Claim<'a> {
         ensures { result ≡ word_place (word_claim self.now) }
     {
         match self {
-            Claim::Alias(_) => 0,
-            Claim::Change(_) => 1,
-            Claim::Entry(_) => 2,
-            Claim::Exit(_) => 3,
-            Claim::Fact(_) => 4,
+            ClaimLine::Alias(_) => 0,
+            ClaimLine::Change(_) => 1,
+            ClaimLine::Entry(_) => 2,
+            ClaimLine::Exit(_) => 3,
+            ClaimLine::Fact(_) => 4,
         }
     }
 
     /// How claims of one word stand to each other.
-    fn compare_in_word(&self, other: &Claim<'_>) -> Ordering
+    fn compare_in_word(&self, other: &ClaimLine<'_>) -> Ordering
         ensures { result ≡ order_in_word (word_claim self.now) (word_claim other.now) }
     {
         match (self, other) {
-            (Claim::Alias(a), Claim::Alias(b)) => a
+            (ClaimLine::Alias(a), ClaimLine::Alias(b)) => a
                 .first
                 .cmp(&b.first)
                 .then(a.second.cmp(&b.second)),
-            (Claim::Change(a), Claim::Change(b)) => a.cmp(b),
-            (Claim::Entry(a), Claim::Entry(b)) => a.compare_subjects(b),
-            (Claim::Exit(a), Claim::Exit(b)) => a.compare_subjects(b),
-            (Claim::Fact(a), Claim::Fact(b)) => a.compare_subjects(b),
+            (ClaimLine::Change(a), ClaimLine::Change(b)) => a.cmp(b),
+            (ClaimLine::Entry(a), ClaimLine::Entry(b)) => a.compare_subjects(b),
+            (ClaimLine::Exit(a), ClaimLine::Exit(b)) => a.compare_subjects(b),
+            (ClaimLine::Fact(a), ClaimLine::Fact(b)) => a.compare_subjects(b),
             _ => Ordering::Equal,
         }
     }
@@ -81,10 +80,10 @@ impl<'a> Claim<'a> {
         ensures { result ≡ may_stand in_loop (word_claim self.now) }
     {
         match self {
-            Claim::Alias(pair) => !in_loop && pair.first < pair.second,
-            Claim::Change(_) => true,
-            Claim::Entry(_) | Claim::Exit(_) => !in_loop,
-            Claim::Fact(_) => in_loop,
+            ClaimLine::Alias(pair) => !in_loop && pair.first < pair.second,
+            ClaimLine::Change(_) => true,
+            ClaimLine::Entry(_) | ClaimLine::Exit(_) => !in_loop,
+            ClaimLine::Fact(_) => in_loop,
         }
     }
 }
@@ -104,26 +103,26 @@ pub(crate) fn reading(version: Version, line: &[u8]) -> Result<Content<'_>, Line
 }
 
 /// What a line claims, by the word that it begins with.
-fn claim_of(version: Version, line: &[u8]) -> Result<Claim<'_>, LineFault>
+fn claim_of(version: Version, line: &[u8]) -> Result<ClaimLine<'_>, LineFault>
     ensures { result_map_both word_claim (λ fault. fault) result ≡ spec.claim_of version line.now }
 {
     if let Some(pair) = line.strip_prefix(b"alias ") {
-        return Ok(Claim::Alias(pair_of(pair)?));
+        return Ok(ClaimLine::Alias(pair_of(pair)?));
     }
     if let Some(root) = line.strip_prefix(b"change ") {
-        return Ok(Claim::Change(variable_of(root)?));
+        return Ok(ClaimLine::Change(variable_of(root)?));
     }
     if let Some(words) = line.strip_prefix(b"entry ") {
         let fact = fact_of(version, words)?;
-        return Ok(Claim::Entry(fact));
+        return Ok(ClaimLine::Entry(fact));
     }
     if let Some(words) = line.strip_prefix(b"exit ") {
         let fact = fact_of(version, words)?;
-        return Ok(Claim::Exit(fact));
+        return Ok(ClaimLine::Exit(fact));
     }
     if let Some(words) = line.strip_prefix(b"fact ") {
         let fact = fact_of(version, words)?;
-        return Ok(Claim::Fact(fact));
+        return Ok(ClaimLine::Fact(fact));
     }
     Err(LineFault::NotInGrammar)
 }

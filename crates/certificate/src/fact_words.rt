@@ -6,13 +6,9 @@ ghost use Rattle.certificate.specs.Contents.{said_fact};
 ghost use Rattle.certificate.specs.Lines as spec;
 
 use crate::bounds::spans_of;
-use crate::facts::Fact;
 use crate::paths::{PathWord, path_of};
-use crate::words::{LineFault, both, constant_of, parted, variable_of};
-use domain::facts::Spans;
-use domain::growth::Growth;
-use domain::interval::Interval;
-use domain::versions::{Extension, Version};
+use crate::{Fact, LineFault, both, constant_of, parted, variable_of};
+use domain::{Extension, Growth, Interval, Spans, Version};
 use std::alloc::{AllocError, Global};
 use std::cmp::Ordering;
 use text_lines::words::blank;

@@ -2,9 +2,7 @@ ghost use Rattle.std.specs.Prelude.{◌≡◌};
 ghost use Rattle.domain.specs.Facts.{subject_order};
 ghost use Rattle.certificate.specs.Contents.{said_fact};
 
-use domain::facts::{Path, Spans};
-use domain::growth::Growth;
-use domain::interval::Interval;
+use domain::{Growth, Interval, Path, Spans};
 use std::cmp::Ordering;
 
 /// A fact that a certificate claims. The numbers of its bounds and its growth are between -2147483647 and 2147483647.

@@ -30,11 +30,11 @@ pub enum ReadFault {
 }
 
 impl ReadFault {
-    ghost use Rattle.certificate.specs.Faults.{line_of, number_of};
+    ghost use Rattle.certificate.specs.Faults.{line_of, code_of};
 
     /// Its number behind the letter F, from 1 to 5, or 0 for `Memory`.
     pub fn number(&self) -> u8
-        ensures { result ≡ number_of self.now }
+        ensures { result ≡ code_of self.now }
     {
         match self {
             ReadFault::Memory(_) => 0,

@@ -13,10 +13,12 @@ pub mod reader;
 mod words;
 pub mod writer;
 
-use domain::versions::Version;
+use domain::Version;
 pub use facts::Fact;
+pub use fault::ReadFault;
 pub use reader::read;
-pub use writer::write;
+pub(crate) use words::{LineFault, both, constant_of, lowered_of, number_of, parted, variable_of};
+pub use writer::{read_again, write};
 
 /// What a certificate text says.
 #[derive(Drop)]

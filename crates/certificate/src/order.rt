@@ -4,14 +4,14 @@ ghost use Rattle.certificate.specs.Building.{said_above, said_content, word_clai
 ghost use Rattle.certificate.specs.Contents.{claim_order, comes_behind};
 ghost use Rattle.certificate.specs.Text.{admits, below};
 
-use crate::claim::{Claim, Content};
+use crate::claim::{ClaimLine, Content};
 
 /// What a line stands below: the last block, the last loop of it, and the last claim of that, or of the block itself.
 #[derive(Clone, Copy)]
 pub(crate) struct Above<'a> {
     pub(crate) block: Option<u32>,
     pub(crate) loop_number: Option<u32>,
-    pub(crate) claim: Option<Claim<'a>>,
+    pub(crate) claim: Option<ClaimLine<'a>>,
 }
 
 impl<'a> Above<'a> {
@@ -31,7 +31,7 @@ impl<'a> Above<'a> {
     }
 
     /// Whether the claim comes behind the last one.
-    fn is_claim_behind(&self, claim: &Claim<'_>) -> bool
+    fn is_claim_behind(&self, claim: &ClaimLine<'_>) -> bool
         ensures { result ≡ comes_behind claim_order (word_claims self.now.claim) (word_claim claim.now) }
     {
         match &self.claim {

@@ -7,8 +7,8 @@ ghost use Rattle.certificate.specs.Building.{pieces, steps_in, word_path};
 ghost use Rattle.certificate.specs.Paths.{begins_step, is_name, is_name_byte, is_piece, step_in};
 ghost use Rattle.certificate.specs.Paths as spec;
 
-use crate::words::{LineFault, variable_of};
-use domain::facts::{Path, Step};
+use crate::{LineFault, variable_of};
+use domain::{Path, Step};
 use std::alloc::{AllocError, Global};
 use std::cmp::Ordering;
 

@@ -10,11 +10,9 @@ ghost use Rattle.certificate.specs.declared.fault.ReadFault.TheVariants.{Memory}
 
 use crate::building::add;
 use crate::claim::{Content, reading};
-use crate::fault::ReadFault;
 use crate::order::Above;
-use crate::words::LineFault;
-use crate::{Certificate, Section};
-use domain::versions::Version;
+use crate::{Certificate, LineFault, ReadFault, Section};
+use domain::Version;
 use std::alloc::Global;
 use text_lines::lines::{Line, next_line};
 use text_lines::numerals::is_number;

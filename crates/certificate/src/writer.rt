@@ -13,13 +13,9 @@ ghost use Rattle.certificate.specs.Paths.{path_words, step_words};
 ghost use Rattle.certificate.specs.Words.{variable};
 ghost use Rattle.certificate.specs.Writing.{alias_line, change_line, fact_line, loop_text, section_text};
 
-use crate::facts::Fact;
-use crate::fault::ReadFault;
-use crate::reader::{heading, read};
-use crate::{AliasPair, Certificate, LoopClaims, Section};
-use domain::facts::{Bound, Path, Span, Spans, Step};
-use domain::growth::Growth;
-use domain::versions::Version;
+use crate::reader::heading;
+use crate::{AliasPair, Certificate, Fact, LoopClaims, ReadFault, Section, read};
+use domain::{Bound, Growth, Path, Span, Spans, Step, Version};
 use std::alloc::{AllocError, Global};
 use text_lines::writer::Writer;
 

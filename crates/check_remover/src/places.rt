@@ -4,23 +4,19 @@ ghost use Rattle.check_remover.specs.Places.{IsPlaces, new_place};
 ghost use Rattle.check_remover.specs.Strip.{is_among, moved, moved_place};
 
 use crate::sites::OpenSites;
-use pcode_assembler::instr::Instr;
+use pcode_assembler::Instr;
 use std::alloc::{AllocError, Global};
 
 /// For each place of the code, and for the one past its end, how many instructions before it stay.
-pub fn places_of(
-    alloc: Global,
-    code: &[Instr],
-    open_sites: &OpenSites,
-) -> Result<Vec<usize>, AllocError>
+pub fn places_of(alloc: Global, code: &[Instr], sites: &OpenSites) -> Result<Vec<usize>, AllocError>
     ensures { IfOk result (λ places.
-        IsPlaces (moved_place (is_among open_sites.now) code.now) (length code.now) places.items) }
+        IsPlaces (moved_place (is_among sites.now) code.now) (length code.now) places.items) }
 {
     let mut places = Vec::with_capacity(alloc, code.len() + 1)?;
     let mut kept = 0;
     for instr in code {
         places.push(kept)?;
-        if open_sites.keep(instr) {
+        if sites.keep(instr) {
             kept += 1;
         }
     }
@@ -34,19 +30,14 @@ pub fn with_moved_jump(instr: Instr, places: &[usize]) -> Instr
     requires small { (place : ℕ) → new_place places.now place ≤ place }
     ensures { result ≡ moved (new_place places.now) instr }
 {
-    match instr {
-        Instr::Jump { target } => Instr::Jump {
-            target: place_in(places, target),
-        },
-        Instr::JumpIfFalse { target } => Instr::JumpIfFalse {
-            target: place_in(places, target),
-        },
-        Instr::CallProcedure { length, target } => Instr::CallProcedure {
-            length,
-            target: place_in(places, target),
-        },
-        other => other,
+    let mut instr = instr;
+    match &mut instr {
+        Instr::Jump { target } => *target = place_in(places, *target),
+        Instr::JumpIfFalse { target } => *target = place_in(places, *target),
+        Instr::CallProcedure { target, .. } => *target = place_in(places, *target),
+        _ => {}
     }
+    instr
 }
 
 /// Where a jump to this place goes.

@@ -6,8 +6,7 @@ ghost use Rattle.check_remover.specs.Strip.{KeepsInstructions, is_among, moved, 
 
 use crate::places::{places_of, with_moved_jump};
 use crate::sites::OpenSites;
-use pcode_assembler::code::{Code, Site};
-use pcode_assembler::instr::Instr;
+use pcode_assembler::{Code, Instr, Site};
 use std::alloc::{AllocError, Global};
 
 /// The code without its checks at sites whose id isn't among the open ones. A jump goes to the first

@@ -1,10 +1,9 @@
 ghost use Rattle.std.specs.Prelude.{◌≡◌, List, IfOk};
 ghost use Rattle.pcode_assembler.specs.declared.code.Site.{Site};
 ghost use Rattle.check_remover.specs.Open.{AreFlagsOf};
-ghost use Rattle.check_remover.specs.Strip.{check_site, is_among, stays};
+ghost use Rattle.check_remover.specs.Strip.{is_among, stays};
 
-use pcode_assembler::code::Site;
-use pcode_assembler::instr::Instr;
+use pcode_assembler::{Instr, Site};
 use std::alloc::{AllocError, Global};
 use std::marker::Model;
 
@@ -47,7 +46,7 @@ impl<'s> OpenSites<'s> {
     pub fn keep(&self, instr: &Instr) -> bool
         ensures { result ≡ stays (is_among self.now) instr.now }
     {
-        match site_of(instr) {
+        match instr.check_site() {
             Some(site) => self.has(site),
             None => true,
         }
@@ -66,23 +65,4 @@ fn flags_of(alloc: Global, sites: &[Site], length: usize) -> Result<Vec<bool>, A
         }
     }
     Ok(flags)
-}
-
-/// The id of a check's site.
-fn site_of(instr: &Instr) -> Option<u32>
-    ensures { result ≡ check_site instr.now }
-{
-    match *instr {
-        Instr::CheckRange { site, .. }
-        | Instr::CheckZero { site }
-        | Instr::CheckDefined { site, .. }
-        | Instr::CheckSum { site }
-        | Instr::CheckDifference { site }
-        | Instr::CheckProduct { site }
-        | Instr::CheckSquare { site }
-        | Instr::CheckMembers { site }
-        | Instr::CheckSet { site, .. }
-        | Instr::Fail { site } => Some(site),
-        _ => None,
-    }
 }

@@ -18,8 +18,8 @@ use Rattle.typed_tree.specs.declared.tree.Tree.{Tree}
 use Rattle.typed_tree.specs.declared.tree.Variable.{Variable}
 use Rattle.domain.specs.Hulls.{common-has_set_left}
 use Rattle.domain.specs.Ranges.{common-has_left}
-use Rattle.meaning.specs.declared.store.Value.{Value}
-use Rattle.meaning.specs.declared.store.Value.TheVariants.{Members, Number}
+use Rattle.meaning.specs.declared.value.Value.{Value}
+use Rattle.meaning.specs.declared.value.Value.TheVariants.{Members, Number}
 use Rattle.meaning.specs.Store.{Environment, Place, Store, stored}
 use Rattle.meaning.specs.Store as store
 use Rattle.checker_rows.specs.Limits.{integer, limits_or_integer, row_limits}

@@ -10,7 +10,7 @@ use Rattle.types.specs.declared.form.TypeId.{TypeId}
 use Rattle.typed_tree.specs.declared.tree.Block.{Block}
 use Rattle.typed_tree.specs.declared.tree.Tree.{Tree}
 use Rattle.domain.specs.Interval.{Interval, common, joined}
-use Rattle.meaning.specs.declared.store.Value.{Value}
+use Rattle.meaning.specs.declared.value.Value.{Value}
 use Rattle.meaning.specs.Meaning.{Argument}
 use Rattle.meaning.specs.Store.{Environment, Place, Store}
 use Rattle.checker_rows.specs.Rows.{Parts, all_parts, is_structured_variable, no_parts, rows_of, rows_touched, rows_under, type_at}

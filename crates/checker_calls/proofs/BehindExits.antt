@@ -20,8 +20,8 @@ use Rattle.typed_tree.specs.declared.tree.VariableKind.{VariableKind}
 use Rattle.typed_tree.specs.declared.tree.VariableKind.TheVariants as kind
 use Rattle.domain.specs.Facts as fact
 use Rattle.domain.specs.Facts.{Fact, Path}
-use Rattle.meaning.specs.declared.store.Value.{Value}
-use Rattle.meaning.specs.declared.store.Value.TheVariants.{Number}
+use Rattle.meaning.specs.declared.value.Value.{Value}
+use Rattle.meaning.specs.declared.value.Value.TheVariants.{Number}
 use Rattle.meaning.specs.Meaning as meaning
 use Rattle.meaning.specs.Meaning.{Argument, environment_of, own_place, place_for, place_passed}
 use Rattle.meaning.specs.Store.{Environment, Place, Store, stored}
@@ -58,7 +58,7 @@ use Rattle.checker_calls.specs.Exit.{Touches, bearer_defined, bearers_defined, b
 use Rattle.checker_calls.specs.Exit.{exit_span, has_actual, is_own_path, is_steady, row_defined, steady_bound, touched_behind}
 use Rattle.checker_calls.specs.Exit.{touches_of, untouched_form, variables_ordered, with_exit, with_exits}
 use Rattle.checker_calls.proofs.Assigned.{Received}
-use Rattle.checker_calls.proofs.Bearers.{bearer-from, named-root}
+use Rattle.checker_calls.proofs.Bearing.{bearer-from, named-root}
 use Rattle.checker_calls.proofs.Behind.{call-kept, touched-behind_known}
 use Rattle.checker_calls.proofs.Borne.{value-received}
 use Rattle.checker_calls.proofs.CallChanges.{HasReturned, touched}

@@ -14,7 +14,7 @@ use Rattle.typed_tree.specs.declared.tree.Selector.{Selector}
 use Rattle.typed_tree.specs.declared.tree.Tree.{Tree}
 use Rattle.typed_tree.specs.declared.tree.Variable.{Variable as DeclaredVariable}
 use Rattle.domain.specs.Facts.{Path}
-use Rattle.meaning.specs.declared.store.Value.{Value}
+use Rattle.meaning.specs.declared.value.Value.{Value}
 use Rattle.meaning.specs.Meaning as meaning
 use Rattle.meaning.specs.Meaning.{Argument, environment_of, own_place, place_for, place_passed}
 use Rattle.meaning.specs.Store.{Environment, Place, Store}
@@ -33,7 +33,7 @@ use Rattle.checker_calls.specs.Actuals.{Actual, Bearer, Binding, OfRows, OfValue
 use Rattle.checker_calls.specs.Actuals.{Reached, bearers_of, bound_to}
 use Rattle.checker_calls.specs.Environments.{Begun}
 use Rattle.checker_calls.proofs.Assigned.{Received}
-use Rattle.checker_calls.proofs.Bearers.{bearer-at, named-root, named-under}
+use Rattle.checker_calls.proofs.Bearing.{bearer-at, named-root, named-under}
 use Rattle.checker_calls.proofs.Callee.{IsCalled, activation_of}
 use Rattle.checker_calls.proofs.Entered.{behind_assignments, outer-kept, own-home, passed-where}
 use Rattle.checker_calls.proofs.FormalRows.{LiesBy, actual-of_row, formal-row, same-value}

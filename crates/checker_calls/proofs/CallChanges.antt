@@ -12,7 +12,7 @@ use Rattle.typed_tree.specs.Accesses.{root_of}
 use Rattle.typed_tree.specs.declared.tree.Block.{Block}
 use Rattle.typed_tree.specs.declared.tree.Tree.{Tree}
 use Rattle.typed_tree.specs.declared.tree.Variable.{Variable}
-use Rattle.meaning.specs.declared.store.Value.{Value}
+use Rattle.meaning.specs.declared.value.Value.{Value}
 use Rattle.meaning.specs.Meaning as meaning
 use Rattle.meaning.specs.Meaning.{Argument, environment_of, home_of, own_place, place_for, place_passed}
 use Rattle.meaning.specs.Store.{Environment, Place, Store, is_beginning, overlap, step_eq, stored}
@@ -22,7 +22,7 @@ use Rattle.checker_loops.specs.Pairs.{all_aliases_in}
 use Rattle.checker_loops.specs.Sections.{BlockClaims}
 use Rattle.checker_loops.proofs.Lists.{among-flat}
 use Rattle.checker_calls.specs.Actuals.{Actual, Binding, OfRows, OfValue, OfVariable, actual_of, bound_to}
-use Rattle.checker_calls.specs.Environments.{Begun, Leaves, Proper, Typed}
+use Rattle.checker_calls.specs.Environments.{Begun, CallLeaves, Proper, Typed}
 use Rattle.checker_calls.specs.Exit.{root_changed, roots_changed}
 use Rattle.checker_calls.proofs.AliasedTypes.{seen}
 use Rattle.checker_calls.proofs.Assigned.{same-step}
@@ -64,7 +64,7 @@ pub record HasLeft (tree : Tree) (pairs : List (ℕ × ℕ)) (number : ℕ) (blo
   pub begun : Begun activations store
   pub are : AreArguments tree caller store block.heading.parameters.items actuals arguments
   pub proper : Proper tree pairs number (suc activations) (environment_of tree (activation_of number block arguments caller activations))
-  pub leaves : Leaves activations claims.changes (environment_of tree (activation_of number block arguments caller activations)) store after
+  pub leaves : CallLeaves activations claims.changes (environment_of tree (activation_of number block arguments caller activations)) store after
   pub outward : (root : ℕ) → Contains claims.changes root → IsOutward tree number root
 
 -- what is claimed of its end holds there

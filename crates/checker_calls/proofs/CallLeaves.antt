@@ -19,7 +19,7 @@ use Rattle.typed_tree.specs.declared.tree.Variable.{Variable as DeclaredVariable
 use Rattle.domain.specs.Facts as fact
 use Rattle.domain.specs.Facts.{Fact, Order}
 use Rattle.domain.specs.Interval.{Interval, common}
-use Rattle.meaning.specs.declared.store.Value.{Value}
+use Rattle.meaning.specs.declared.value.Value.{Value}
 use Rattle.meaning.specs.Meaning as meaning
 use Rattle.meaning.specs.Meaning.{Argument, environment_of, place_for, place_passed}
 use Rattle.meaning.specs.Store.{Environment, Place, Store, stored}

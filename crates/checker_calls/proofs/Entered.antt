@@ -16,7 +16,7 @@ use Rattle.typed_tree.specs.declared.tree.Tree.{Tree}
 use Rattle.typed_tree.specs.declared.tree.Variable.{Variable}
 use Rattle.typed_tree.specs.declared.tree.VariableKind.{VariableKind}
 use Rattle.typed_tree.specs.declared.tree.VariableKind.TheVariants as kind
-use Rattle.meaning.specs.declared.store.Value.{Value}
+use Rattle.meaning.specs.declared.value.Value.{Value}
 use Rattle.meaning.specs.Meaning.{Activation, Argument, environment_of, home_of, own_place, place_for, seen_from}
 use Rattle.meaning.specs.Store.{Environment, Place, Store, stored}
 use Rattle.checker_calls.specs.Environments.{Begun, LiesIn, Typed, place_type, type_led}

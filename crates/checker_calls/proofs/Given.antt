@@ -22,8 +22,8 @@ use Rattle.typed_tree.specs.declared.tree.Variable.{Variable as DeclaredVariable
 use Rattle.domain.specs.Facts as fact
 use Rattle.domain.specs.Facts.{Fact, Path}
 use Rattle.domain.specs.Interval.{HasMember, Interval, is_included, is_vacant}
-use Rattle.meaning.specs.declared.store.Value.{Value}
-use Rattle.meaning.specs.declared.store.Value.TheVariants.{Number}
+use Rattle.meaning.specs.declared.value.Value.{Value}
+use Rattle.meaning.specs.declared.value.Value.TheVariants.{Number}
 use Rattle.meaning.specs.Meaning as meaning
 use Rattle.meaning.specs.Meaning.{Argument, environment_of, place_passed}
 use Rattle.meaning.specs.Store.{Environment, Place, Store}
@@ -32,7 +32,7 @@ use Rattle.checker_loops.proofs.VariableRows.{first-behind_fields, no-way, varia
 use Rattle.checker_calls.proofs.Headings.{one-there}
 use Rattle.checker_calls.proofs.Numbers.{hold-numbers, ordinal-number}
 use Rattle.checker_calls.proofs.Claimed.{AllHold}
-use Rattle.checker_calls.proofs.Bearers.{named-root}
+use Rattle.checker_calls.proofs.Bearing.{named-root}
 use Rattle.checker_calls.proofs.Started.{value-home}
 use Rattle.checker_calls.proofs.Assigned.{Received}
 use Rattle.checker_rows.proofs.Selected.{Matches}

@@ -11,7 +11,7 @@ use Rattle.checker_state.specs.Knows.{rests_on_any}
 use Rattle.checker_state.specs.State.{Dead, Facts, Held, Live, Ordered, RowState, Span, State, Stretched, no_row, with_growth}
 use Rattle.checker_state.specs.View.{said_held}
 use Rattle.checker_trail.specs.declared.state.State.{State as Kept}
-use Rattle.checker_known.specs.Known.{core, kept_by, viewed}
+use Rattle.checker_known.specs.Knowledge.{core, kept_by, viewed}
 use Rattle.checker_trail.specs.Trail.{all_ungrown, over_held, seen}
 
 -- ---- one variable

@@ -19,7 +19,7 @@ pub mod Claimed
 pub mod CallChanges
 pub mod Reached
 pub mod Fitting
-pub mod Bearers
+pub mod Bearing
 pub mod Bound
 pub mod Mapped
 pub mod Spans

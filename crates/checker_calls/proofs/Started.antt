@@ -21,7 +21,7 @@ use Rattle.typed_tree.specs.declared.tree.VariableKind.TheVariants as kind
 use Rattle.domain.specs.declared.versions.Version.{Version}
 use Rattle.domain.specs.Facts.{Fact}
 use Rattle.domain.specs.Interval.{Interval, vacant}
-use Rattle.meaning.specs.declared.store.Value.{Value}
+use Rattle.meaning.specs.declared.value.Value.{Value}
 use Rattle.meaning.specs.Meaning.{Activation, Argument, environment_of, home_of, own_place, place_for, program_activation}
 use Rattle.meaning.specs.Store.{Environment, Place, Store}
 use Rattle.checker_rows.specs.Limits.{limits_or_integer}

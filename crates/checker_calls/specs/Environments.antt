@@ -15,7 +15,7 @@ use Rattle.types.specs.declared.form.TypeId.{TypeId}
 use Rattle.typed_tree.specs.declared.tree.Tree.{Tree}
 use Rattle.typed_tree.specs.declared.tree.Variable.{Variable}
 use Rattle.typed_tree.specs.WellFormed.{is_visible, outline_of}
-use Rattle.meaning.specs.declared.store.Value.{Value}
+use Rattle.meaning.specs.declared.value.Value.{Value}
 use Rattle.meaning.specs.Effect as effect
 use Rattle.meaning.specs.Integers.{is_within}
 use Rattle.meaning.specs.Kinds.{IsOfType}
@@ -107,7 +107,7 @@ IsListed changes visible place =
 
 -- an activation of this number, where this is visible and whose block lists these changes, left what lies in earlier
 -- activations as it was, but for the places of what is listed; and there too it left each variable defined that was
-pub record Leaves (number : ℕ) (changes : List ℕ) (visible : Environment) (before after : Store) : Type 0 where
+pub record CallLeaves (number : ℕ) (changes : List ℕ) (visible : Environment) (before after : Store) : Type 0 where
   pub values : (place : Place) → place.activation < number
       → IsListed changes visible place ⊎ (stored after place ≡ stored before place)
   pub defined : (place : Place) (v : Value) → place.activation < number → stored before place ≡ Some v

@@ -18,7 +18,7 @@ use Rattle.checker_calls.specs.declared.between.Between.{Between as KeptBetween}
 use Rattle.checker_calls.specs.declared.between.Limits.{Limits}
 use Rattle.checker_calls.specs.declared.exit.Within.{Within}
 use Rattle.checker_calls.specs.declared.exit.Within.TheVariants as within
-use Rattle.checker_calls.specs.declared.ways.Way.{Way}
+use Rattle.checker_calls.specs.declared.ways.AccessWay.{AccessWay}
 use Rattle.checker_calls.specs.Actuals.{Actual, Bearer, Binding, OfRows, OfValue, OfVariable, Passed, Reached, bound_to}
 use Rattle.checker_calls.specs.Entry.{Between, Limit}
 use Rattle.domain.specs.Facts as fact
@@ -46,11 +46,11 @@ said_bindings bindings = bound_to bindings.roots.now (map said_actual bindings.a
 -- ---- ways
 
 -- what is left of a way
-abbrev pub said_way : Way → List PathStep
+abbrev pub said_way : AccessWay → List PathStep
 said_way way = way.path.now ++ map step_of way.selectors.now
 
 -- its first step and what is left behind it, if there is one
-abbrev pub IsSplit : List PathStep → Option (PathStep × Way) → Type 0
+abbrev pub IsSplit : List PathStep → Option (PathStep × AccessWay) → Type 0
 IsSplit way None = way ≡ []
 IsSplit way (Some (step, behind)) = way ≡ step ∷ said_way behind
 

@@ -9,13 +9,12 @@ ghost use Rattle.checker_calls.specs.Actuals.{actual_of, after_call, all_of_rows
 ghost use Rattle.checker_calls.specs.Actuals.{bearers_of, settled, unknown_index, unknown_reach};
 ghost use Rattle.checker_calls.specs.View.{said_actual, said_bearers, said_bindings, said_found};
 
-use checker_loops::claims::rows_named;
+use checker_loops::rows_named;
 use checker_rows::{Rows, Span};
 use checker_state::{Bound, Index, Indexes, Reach};
-use domain::facts::Path;
-use domain::interval::Interval;
+use domain::{Interval, Path};
 use std::slice;
-use typed_tree::tree::Access;
+use typed_tree::Access;
 
 /// What is passed to a formal parameter (ISO 7185:1990, 6.6.3).
 #[derive(Drop)]

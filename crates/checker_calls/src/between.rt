@@ -7,7 +7,7 @@ ghost use Rattle.checker_state.specs.Bounds.{raised_bound};
 ghost use Rattle.checker_state.specs.State.{begins, covers, has_span, have_spans, is_covered, is_had, is_joined};
 ghost use Rattle.checker_state.specs.State.{joins, le, wanted_of};
 ghost use Rattle.checker_state.specs.View.{inner_spans, said_bound, said_held, said_span};
-ghost use Rattle.checker_known.specs.Known.{core, viewed};
+ghost use Rattle.checker_known.specs.Knowledge.{core, viewed};
 ghost use Rattle.checker_trail.specs.Trail.{seen};
 ghost use Rattle.domain.specs.Facts.{said_span as said_claimed};
 ghost use Rattle.checker_calls.specs.Entry.{have_values, holds_between, is_empty_between, limits_of, limits_of_span};
@@ -15,12 +15,11 @@ ghost use Rattle.checker_calls.specs.Entry.{wanted_between};
 ghost use Rattle.checker_calls.specs.View.{inner_claimed, inner_limits, said_between, said_bindings, said_limits};
 ghost use Rattle.checker_calls.specs.View.{said_some_between, said_some_limits};
 
-use crate::actuals::Bindings;
+use crate::Bindings;
 use crate::limits::{Limit, limit_of};
 use checker_state::{Bound, Held, Span, Term};
 use checker_trail::State;
-use domain::facts;
-use domain::versions::Extension;
+use domain::{Extension, facts};
 use types::OrdinalRange;
 
 /// The limits of a span of a callee.

@@ -8,11 +8,10 @@ ghost use Rattle.checker_calls.specs.Exit.{changes_of, root_changed, roots_chang
 ghost use Rattle.checker_calls.specs.View.{said_bindings, said_found};
 ghost use Rattle.checker_calls.specs.ExitView.{said_change};
 
-use crate::actuals::{Actual, Bindings};
-use crate::exit_claims::ExitClaims;
+use crate::{Actual, Bindings, ExitClaims};
 use checker_rows::Span;
 use checker_state::{Indexes, Reach};
-use domain::interval::Interval;
+use domain::Interval;
 use std::alloc::{AllocError, Global};
 use types::TypeId;
 

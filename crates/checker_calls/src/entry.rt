@@ -20,9 +20,7 @@ use certificate::Fact;
 use checker_rows::Span;
 use checker_state::{Indexes, Reach};
 use checker_trail::State;
-use domain::Domain;
-use domain::facts::Spans;
-use domain::interval::Interval;
+use domain::{Domain, Interval, Spans};
 
 /// Whether each fact that is claimed of the start of a block holds where it is called; at a dead point each does
 /// (ISO 7185:1990, 6.6.3).

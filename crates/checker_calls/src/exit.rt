@@ -18,20 +18,17 @@ ghost use Rattle.checker_calls.specs.View.{said_actual, said_bindings, said_with
 ghost use Rattle.checker_calls.specs.ExitView.{left_behind, rows_outside, steady_at, touched_by, touches_by};
 
 use crate::actuals::{Actual, Bearers, Bindings, bearers_named, is_entire, is_variable_row};
-use crate::changes::{all_changes, roots_changed};
-use crate::exit_claims::{ExitClaims, range_at_end};
 use crate::touches::Touches;
-use crate::ways::is_whole;
+use crate::{ExitClaims, all_changes, is_whole, range_at_end, roots_changed};
 use certificate::Fact;
-use checker_loops::pairs::Pairs;
-use checker_loops::sections::BlockClaims;
+use checker_loops::{BlockClaims, Pairs};
 use checker_rows::{Rows, Span};
 use checker_state::{Bound, Held, Order, Span as StateSpan, Stretch};
 use checker_trail::{State, all_of_row};
+use domain::Interval;
 use domain::facts::{self, Path, Spans};
-use domain::interval::Interval;
 use std::alloc::{AllocError, Global};
-use typed_tree::tree::Tree;
+use typed_tree::Tree;
 
 /// What is defined of a row at the end of a callee: all of it, or what lies in a span, or in two.
 #[derive(Clone, Copy)]

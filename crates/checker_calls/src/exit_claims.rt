@@ -6,13 +6,11 @@ ghost use Rattle.domain.specs.Interval.{common};
 ghost use Rattle.checker_calls.specs.Exit.{claimed_of_row, exit_range, range_at_end};
 ghost use Rattle.checker_calls.specs.ExitView.{known_at};
 
-use crate::actuals::has;
-use crate::ranges::Ranges;
+use crate::{Ranges, has};
 use certificate::Fact;
-use checker_loops::claims::rows_named;
+use checker_loops::rows_named;
 use checker_rows::{Rows, Span};
-use domain::Domain;
-use domain::interval::Interval;
+use domain::{Domain, Interval};
 use std::alloc::{AllocError, Global};
 use std::marker::Model;
 

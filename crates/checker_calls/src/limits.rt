@@ -8,12 +8,11 @@ ghost use Rattle.checker_calls.specs.Entry.{forms_at_most, is_at_most, limit_mov
 ghost use Rattle.checker_calls.specs.Entry.{limit_of_bound, limit_of_plus};
 ghost use Rattle.checker_calls.specs.View.{said_actual, said_bindings, said_limit, said_some_limit, said_terms};
 
-use crate::actuals::{Actual, Bindings, is_variable_row};
-use crate::ways::is_whole;
+use crate::actuals::is_variable_row;
+use crate::{Actual, Bindings, is_whole};
 use checker_state::{Bound, Ends, Term};
 use checker_trail::State;
-use domain::facts::Bound as ClaimedBound;
-use domain::interval::Interval;
+use domain::{Bound as ClaimedBound, Interval};
 
 /// What a bound of a callee is where it is called.
 #[derive(Clone, Copy)]

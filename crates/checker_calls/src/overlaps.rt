@@ -8,11 +8,10 @@ ghost use Rattle.checker_calls.specs.Overlaps.{are_parted, are_separate, is_actu
 ghost use Rattle.checker_calls.specs.Overlaps.{is_declared_in, is_listed_round, is_listed_with, may_overlap};
 ghost use Rattle.checker_calls.specs.View.{said_actual, said_bindings, said_way};
 
-use crate::actuals::{Actual, Bindings};
-use crate::ways::Way;
-use checker_loops::pairs::Pairs;
+use crate::{AccessWay, Actual, Bindings};
+use checker_loops::Pairs;
 use std::alloc::{AllocError, Global};
-use typed_tree::tree::{Access, PathStep, Tree};
+use typed_tree::{Access, PathStep, Tree};
 
 /// Whether what is passed in one block to another, round which there are some, makes listed aliases alone
 /// (ISO 7185:1990, 6.6.3.3).
@@ -147,12 +146,12 @@ pub fn may_overlap(pairs: &Pairs, one: &Access, other: &Access) -> bool
     ensures { result ≡ may_overlap pairs.now.pairs (origin_of one.now) one.now.selectors.items (origin_of other.now)
         other.now.selectors.items }
 {
-    one.root == other.root && !are_parted(Way::of(one), Way::of(other))
+    one.root == other.root && !are_parted(AccessWay::of(one), AccessWay::of(other))
         || pairs.has(one.root, other.root)
 }
 
 // Whether ways from one variable lead to different fields of a record.
-fn are_parted(mut one: Way, mut other: Way) -> bool
+fn are_parted(mut one: AccessWay, mut other: AccessWay) -> bool
     ensures { result ≡ are_parted (said_way one.entry) (said_way other.entry) }
 {
     while let Some((step, way)) = one.split_first() {

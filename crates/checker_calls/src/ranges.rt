@@ -1,7 +1,7 @@
 ghost use Rattle.std.specs.Prelude.{◌≡◌, ℕ, IfOk, None};
 ghost use Rattle.checker_calls.specs.ExitView.{HasRange, range_at};
 
-use domain::interval::Interval;
+use domain::Interval;
 use std::alloc::{AllocError, Global};
 use std::collections::HashMap;
 

@@ -9,13 +9,10 @@ ghost use Rattle.checker_calls.specs.Exit.{all_joined, is_steady, range_behind};
 ghost use Rattle.checker_calls.specs.ExitView.{AreRoots, AreRows, AreTypes, added, joined_with, just, met};
 ghost use Rattle.checker_calls.specs.ExitView.{range_of_type, said_change};
 
-use crate::actuals::is_entire;
-use crate::changes::Change;
-use crate::ranges::Ranges;
+use crate::{Change, Ranges, is_entire};
 use checker_rows::Rows;
 use checker_state::{Bound, Held, Span};
-use domain::Domain;
-use domain::interval::Interval;
+use domain::{Domain, Interval};
 use std::alloc::{AllocError, Global};
 use std::collections::HashSet;
 use std::marker::Model;

@@ -5,7 +5,7 @@ ghost use Rattle.typed_tree.specs.WellFormed.{of_one, outline_of};
 ghost use Rattle.typed_tree.specs.declared.tree.VariableKind.{VariableKind};
 ghost use Rattle.checker_calls.specs.Names.{is_outward, is_variable_parameter};
 
-use typed_tree::tree::{Tree, VariableKind};
+use typed_tree::{Tree, VariableKind};
 
 /// Whether a variable is declared in a block or round it.
 pub fn is_visible(tree: &Tree, block: u32, root: u32) -> bool

@@ -34,8 +34,8 @@ use Rattle.typed_tree.specs.Records.{Begin, OpenRecord, access_begins, all_begin
 use Rattle.typed_tree.specs.Records.{link_begins, parameter_begins, passed_begin, passed_begins, value_begins, whole_begins, width_begins, written_begins}
 use Rattle.typed_tree.specs.WellFormed.{length_of, of_one}
 use Rattle.members.specs.Members as sets
-use Rattle.meaning.specs.declared.store.Value.{Value}
-use Rattle.meaning.specs.declared.store.Value.TheVariants.{Members, Number}
+use Rattle.meaning.specs.declared.value.Value.{Value}
+use Rattle.meaning.specs.declared.value.Value.TheVariants.{Members, Number}
 use Rattle.meaning.specs.Integers.{truth}
 use Rattle.meaning.specs.Kinds.{LieOpen}
 use Rattle.meaning.specs.Store.{Environment, Place, part}

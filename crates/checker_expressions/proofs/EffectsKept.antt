@@ -21,8 +21,8 @@ use Rattle.text_input.specs.Input.{Reading, Reads, Fails, Ends, read_character, 
 use Rattle.members.specs.Members.{can_be_member, range_fits}
 use Rattle.meaning.specs.declared.outcome.Ending.{Ending}
 use Rattle.meaning.specs.declared.outcome.Ending.TheVariants as ending
-use Rattle.meaning.specs.declared.store.Value.{Value}
-use Rattle.meaning.specs.declared.store.Value.TheVariants.{Number}
+use Rattle.meaning.specs.declared.value.Value.{Value}
+use Rattle.meaning.specs.declared.value.Value.TheVariants.{Number}
 use Rattle.meaning.specs.Integers.{is_integer_number}
 use Rattle.meaning.specs.Store.{Environment, Place, Store, forgotten, held, is_beginning, kept, part, place_eq, step_eq, stored}
 use Rattle.meaning.specs.Effect.{State, Reply, Gives, Stops, Action, Round, ◌>>=◌, and_then, give, stop, require, enter, number_of, use_turn, take_turn}

@@ -12,7 +12,7 @@ use Rattle.checker_loops.specs.BlockView.{said_section}
 use Rattle.checker_expressions.specs.declared.fault.Breach.{Breach}
 use Rattle.checker_expressions.specs.declared.flow.Flow.{Flow}
 use Rattle.checker_expressions.specs.declared.grounds.Grounds.{Grounds}
-use Rattle.checker_expressions.specs.View.{Flowed, Goes, context_of, first_of, opened, state_of}
+use Rattle.checker_expressions.specs.View.{Flowed, FlowGoes, context_of, first_of, opened, state_of}
 use Rattle.checker_expressions.specs.Walk.{Context, Walked, Walking, ◌>>=◌, changed_by, checked, enter, first_breach, give, left_open}
 
 -- ---- breaches
@@ -50,7 +50,7 @@ context-same old new claims grounds_are table_is =
 -- ---- one piece behind another
 
 pub goes-then : {A B : Type 0} (first : Walking A) (next : A → Walking B) {old mid new : Flow} {a : A} {b : B}
-    → Goes first old mid a → Goes (next a) mid new b → Goes (first >>= next) old new b
+    → FlowGoes first old mid a → FlowGoes (next a) mid new b → FlowGoes (first >>= next) old new b
 goes-then {A = A} {B = B} first next {old = old} {mid = mid} {new = new} {a = a} {b = b} one two = record {
   unless_short = λ long.
       let rest = two.unless_short long in
@@ -88,7 +88,7 @@ goes-then {A = A} {B = B} first next {old = old} {mid = mid} {new = new} {a = a}
 -- a piece that does the same here as another
 pub goes-alike : {A : Type 0} (one other : Walking A) {old new : Flow} {a : A}
     → ((claims : List Claims) → one (context_of old claims) (state_of old) ≡ other (context_of old claims) (state_of old))
-    → Goes one old new a → Goes other old new a
+    → FlowGoes one old new a → FlowGoes other old new a
 goes-alike {A = A} one other {old = old} {new = new} {a = a} alike goes = record {
   unless_short = λ long.
       let flows = goes.unless_short long in
@@ -107,7 +107,7 @@ goes-alike {A = A} one other {old = old} {new = new} {a = a} alike goes = record
           broken_is = flowed.broken_is ∙ ap (λ (w : Walked A). first_of old.broken (first_breach w.broken)) is;
         }
 
-pub goes-as : {A : Type 0} {one other : Walking A} {old new : Flow} {a : A} → one ≡ other → Goes one old new a → Goes other old new a
+pub goes-as : {A : Type 0} {one other : Walking A} {old new : Flow} {a : A} → one ≡ other → FlowGoes one old new a → FlowGoes other old new a
 goes-as {one = one} {other = other} {old = old} is goes =
     goes-alike one other (λ claims. ap (λ walking. walking (context_of old claims) (state_of old)) is) goes
 
@@ -118,7 +118,7 @@ pub goes-by : {A : Type 0} (walking : Walking A) (walked : Walked A) (step : Sta
     → ((claims : List Claims) → walking (context_of old claims) (state_of old) ≡ walked) → new.grounds ≡ old.grounds
     → Moves step old.state new.state → a ≡ walked.value → step (state_of old) ≡ walked.after
     → new.open_ids.items ≡ old.open_ids.items ++ walked.open_ids → new.broken ≡ first_of old.broken (first_breach walked.broken)
-    → Goes walking old new a
+    → FlowGoes walking old new a
 goes-by {A = A} walking walked step {old = old} {new = new} {a = a} is grounds_are moves value_is after_is open_is broken_is = record {
   unless_short = λ long.
       let moved = moves.unless_short long in
@@ -140,30 +140,32 @@ stays : (state : Kept) → Moves (λ same. same) state state
 stays state = ways.moves-stay (λ same. same) state refl
 
 -- a value alone
-pub goes-give : {A : Type 0} (value : A) (flow : Flow) → Goes (give value) flow flow value
+pub goes-give : {A : Type 0} (value : A) (flow : Flow) → FlowGoes (give value) flow flow value
 goes-give value flow =
     goes-by (give value) (give value (context_of flow []) (state_of flow)) (λ same. same) (λ claims. refl) refl (stays flow.state) refl refl
     (sym (append-nil flow.open_ids.items)) (sym (first-none flow.broken))
 
 -- an entry, which the flow doesn't see
-pub goes-entered : (number : ℕ) (flow : Flow) → Goes (enter number) flow flow tt
+pub goes-entered : (number : ℕ) (flow : Flow) → FlowGoes (enter number) flow flow tt
 goes-entered number flow =
     goes-by (enter number) (enter number (context_of flow []) (state_of flow)) (λ same. same) (λ claims. refl) refl (stays flow.state) refl refl
     (sym (append-nil flow.open_ids.items)) (sym (first-none flow.broken))
 
 -- an entry, and then a piece
-pub goes-behind : {A : Type 0} (number : ℕ) (next : Walking A) {old new : Flow} {a : A} → Goes next old new a → Goes (enter number >>= λ _. next) old new a
+pub goes-behind : {A : Type 0} (number : ℕ) (next : Walking A) {old new : Flow} {a : A} → FlowGoes next old new a → FlowGoes (enter number >>= λ _. next) old
+    new a
 goes-behind number next {old = old} goes = goes-then (enter number) (λ _. next) (goes-entered number old) goes
 
 -- what is known changes alone
-pub goes-moved : (step : State → State) (old : Flow) {state : Kept} → Moves step old.state state → Goes (changed_by step) old (record old { state = state }) tt
+pub goes-moved : (step : State → State) (old : Flow) {state : Kept} → Moves step old.state state → FlowGoes (changed_by step) old (record old { state = state })
+    tt
 goes-moved step old moves =
     goes-by (changed_by step) (changed_by step (context_of old []) (state_of old)) step (λ claims. refl) refl moves refl refl
     (sym (append-nil old.open_ids.items)) (sym (first-none old.broken))
 
 -- memory ran out
 pub goes-short : {A : Type 0} {refused : Refused} (walking : Walking A) (old new : Flow) (a : A) → new.state.refused ≡ Some refused
-    → Goes walking old new a
+    → FlowGoes walking old new a
 goes-short {refused = refused} walking old new a short = record {
   unless_short = λ long. absurd (let never : Some refused ≡ None = sym short ∙ long in cc);
 }
@@ -172,14 +174,14 @@ goes-short {refused = refused} walking old new a short = record {
 
 -- a piece, and then a value that is made of its own
 pub goes-mapped : {A B : Type 0} (first : Walking A) (next : A → B) {old new : Flow} {a : A} {b : B}
-    → Goes first old new a → b ≡ next a → Goes (first >>= λ x. give (next x)) old new b
+    → FlowGoes first old new a → b ≡ next a → FlowGoes (first >>= λ x. give (next x)) old new b
 goes-mapped first next {new = new} {b = b} goes is =
     goes-then first (λ x. give (next x)) goes (goes-as (ap give is) (goes-give b new))
 
 -- the same where the value is known
 pub goes-known : {A B : Type 0} (first : Walking A) (next : A → B) (known : A) {old new : Flow} {a : A} {b : B}
-    → Goes first old new a → ((context : Context) → (first context (state_of old)).value ≡ known) → (a ≡ known → b ≡ next a)
-    → Goes (first >>= λ x. give (next x)) old new b
+    → FlowGoes first old new a → ((context : Context) → (first context (state_of old)).value ≡ known) → (a ≡ known → b ≡ next a)
+    → FlowGoes (first >>= λ x. give (next x)) old new b
 goes-known first next known {old = old} goes known_is is = record {
   unless_short = λ long.
       let one = (goes.unless_short long).flowed [] in
@@ -190,7 +192,7 @@ goes-known first next known {old = old} goes known_is is = record {
 pub goes-used : {A : Type 0} (walking : Walking A) {closed : Bool} (covered : Bool) (site : ℕ) (step : State → State) (a : A) {old mid : Flow}
     {state : Kept} → ((claims : List Claims) → walking (context_of old claims) (state_of old)
     ≡ record { value = a; after = step (state_of old); open_ids = left_open covered site; broken = []; linked = [] })
-    → closed ≡ covered → Goes (opened closed site) old mid tt → Moves step mid.state state → Goes walking old (record mid { state = state }) a
+    → closed ≡ covered → FlowGoes (opened closed site) old mid tt → Moves step mid.state state → FlowGoes walking old (record mid { state = state }) a
 goes-used {A = A} walking {closed = closed} covered site step a {old = old} {mid = mid} is closed_is opens moves =
     goes-alike (opened closed site >>= λ _. (changed_by step >>= λ _. give a)) walking
     (λ claims.
@@ -203,7 +205,7 @@ goes-used {A = A} walking {closed = closed} covered site step a {old = old} {mid
 pub goes-checked : {A : Type 0} (walking : Walking A) (closed : Bool) (site : ℕ) (step : State → State) (a : A) {old mid : Flow}
     {state : Kept} → ((claims : List Claims) → walking (context_of old claims) (state_of old)
     ≡ record { value = a; after = step (state_of old); open_ids = left_open (is_dead (state_of old) || closed) site; broken = []; linked = [] })
-    → Goes (checked closed site) old mid tt → Moves step mid.state state → Goes walking old (record mid { state = state }) a
+    → FlowGoes (checked closed site) old mid tt → Moves step mid.state state → FlowGoes walking old (record mid { state = state }) a
 goes-checked {A = A} walking closed site step a {old = old} {mid = mid} is tests moves =
     goes-alike (checked closed site >>= λ _. (changed_by step >>= λ _. give a)) walking
     (λ claims.

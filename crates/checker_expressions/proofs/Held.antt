@@ -20,7 +20,7 @@ use Rattle.checker_state.specs.Values.{known_range}
 use Rattle.checker_rows.specs.Limits.{integer, limits_of}
 use Rattle.checker_loops.proofs.Behind.{held-itself, held-moved}
 use Rattle.checker_expressions.specs.declared.flow.Flow.{Flow}
-use Rattle.checker_expressions.specs.View.{Goes, IsRangeOf}
+use Rattle.checker_expressions.specs.View.{FlowGoes, IsRangeOf}
 use Rattle.checker_expressions.proofs.Flows.{goes-as}
 use Rattle.checker_expressions.specs.Walk.{Walking, ◌>>=◌, calculated, calculated_both, combined, divides, of_both, operated, ordinal, shifted, tested}
 use Rattle.checker_expressions.specs.Walk.{unless_overflow, within}
@@ -68,14 +68,14 @@ of_both-plain dyadic.In left right site is = absurd (none-some site is)
 -- a result of which the checker keeps the range
 result-goes : {told : Option ℕ} (overflow : Option ℕ) (kept range : Interval) {old new : Flow} {known : Known}
     → told ≡ overflow → IsRangeOf overflow kept range → IsPlainBehind overflow range
-    → Goes (unless_overflow told kept) old new known → Goes (unless_overflow overflow range) old new known
+    → FlowGoes (unless_overflow told kept) old new known → FlowGoes (unless_overflow overflow range) old new known
 result-goes overflow kept range told_is is plain goes =
     goes-as (ap (λ (o : Option ℕ). unless_overflow o kept) told_is ∙ unless-held overflow kept range is plain) goes
 
 pub calculated-goes : (operation : Monadic) (does : Calculation) (known : Known) {told : Option ℕ} (kept range : Interval) {old new : Flow} {result : Known}
     → operation ≡ monadic.Plain does → range ≡ known_range known → told ≡ overflow_of does
-    → IsRangeOf (overflow_of does) kept (calculated does range) → Goes (unless_overflow told kept) old new result
-    → Goes (operated operation known) old new result
+    → IsRangeOf (overflow_of does) kept (calculated does range) → FlowGoes (unless_overflow told kept) old new result
+    → FlowGoes (operated operation known) old new result
 calculated-goes operation does known kept range is range_is told_is kept_is goes =
     goes-as (sym (ap (λ o. operated o known) is ∙ ap (λ r. unless_overflow (overflow_of does) (calculated does r)) (sym range_is)))
     (result-goes (overflow_of does) kept (calculated does range) told_is kept_is (calculated-plain does range) goes)
@@ -102,13 +102,13 @@ calculated_both-as operation left right one two left_is right_is =
 -- an operation on two operands that are numbers
 pub of-numbers : {operation : Dyadic} (same : Dyadic) (left right : Known) {old new : Flow} {result : Known} → operation ≡ same
     → combined same left right ≡ calculated_both same (known_range left) (known_range right)
-    → Goes (calculated_both operation (known_range left) (known_range right)) old new result → Goes (combined operation left right) old new result
+    → FlowGoes (calculated_both operation (known_range left) (known_range right)) old new result → FlowGoes (combined operation left right) old new result
 of-numbers same left right is of_numbers goes =
     goes-as (ap (λ o. calculated_both o (known_range left) (known_range right)) is ∙ sym of_numbers ∙ ap (λ o. combined o left right) (sym is)) goes
 
 pub both-goes : (operation : Dyadic) {told : Option ℕ} (one passed kept : Interval) {old new : Flow} {result : Known}
     → told ≡ overflow_of_both operation → IsRangeOf (overflow_of_both operation) kept (of_both operation one passed)
-    → Goes (unless_overflow told kept) old new result → Goes (behind operation one passed) old new result
+    → FlowGoes (unless_overflow told kept) old new result → FlowGoes (behind operation one passed) old new result
 both-goes operation one passed kept told_is is goes =
     result-goes (overflow_of_both operation) kept (of_both operation one passed) told_is is (of_both-plain operation one passed) goes
 

@@ -20,7 +20,7 @@ use Rattle.checker_state.specs.Values.{known_range}
 use Rattle.checker_calls.specs.Actuals.{Actual}
 use Rattle.checker_expressions.specs.declared.fault.Breach.{Breach}
 use Rattle.checker_expressions.specs.declared.flow.Flow.{Flow}
-use Rattle.checker_expressions.specs.View.{Goes, context_of, state_of}
+use Rattle.checker_expressions.specs.View.{FlowGoes, context_of, state_of}
 use Rattle.checker_expressions.specs.Walk.{Gathering, Linked, Walked, Walking, ◌>>=◌, actuals_walk, behind_next, deeper, form_before_by, gathered, give}
 use Rattle.checker_expressions.specs.Walk.{in_turn, index_pieces, index_test, indexes_walk, is_kept, link_walk, members_walk, next_test, passed_piece_of}
 use Rattle.checker_expressions.specs.Walk.{piece_of, value_walk}
@@ -45,15 +45,15 @@ entries-cut {X = X} counted entries items i x before inside is counts =
 -- ---- operators
 
 pub turn-step : (items : List Link) (i : ℕ) (link : Link) (left : Known) {value : Known} {old mid new : Flow} {result : Known}
-    → i < length items → link ≡ get_or items i link → Goes (link_walk link left) old mid value
-    → Goes (in_turn (map link_walk (drop (i + 1) items)) value) mid new result
-    → Goes (in_turn (map link_walk (drop i items)) left) old new result
+    → i < length items → link ≡ get_or items i link → FlowGoes (link_walk link left) old mid value
+    → FlowGoes (in_turn (map link_walk (drop (i + 1) items)) value) mid new result
+    → FlowGoes (in_turn (map link_walk (drop i items)) left) old new result
 turn-step items i link left {value = value} inside is one two =
     goes-as (sym (ap (λ links. in_turn (map link_walk links) left) (item-cut items i link inside is)))
     (goes-then (link_walk link left) (in_turn (map link_walk (drop (i + 1) items))) one two)
 
 pub turn-end : (items : List Link) (i : ℕ) (left : Known) (flow : Flow) → length items ≤ i
-    → Goes (in_turn (map link_walk (drop i items)) left) flow flow left
+    → FlowGoes (in_turn (map link_walk (drop i items)) left) flow flow left
 turn-end items i left flow past =
     goes-as (sym (ap (λ links. in_turn (map link_walk links) left) (drop_of_length-le items past))) (goes-give left flow)
 
@@ -74,11 +74,11 @@ abbrev pub ordinal_in : Flow → ℕ → Bool
 ordinal_in flow = is_ordinal_variable flow.state.table.now
 
 pub index-step : (selectors : List Selector) (items : List Expr) (i : ℕ) (index : Expr) (reach : Reach) {known : Known} {range : Interval}
-    {old mid tested new : Flow} {result : Reach} → i < length items → index ≡ get_or items i index → Goes (value_walk index) old mid known
-    → Goes (index_test (next_test selectors) known) mid tested range
-    → Goes (indexes_walk (behind_next selectors) (index_pieces (drop (i + 1) items))
+    {old mid tested new : Flow} {result : Reach} → i < length items → index ≡ get_or items i index → FlowGoes (value_walk index) old mid known
+    → FlowGoes (index_test (next_test selectors) known) mid tested range
+    → FlowGoes (indexes_walk (behind_next selectors) (index_pieces (drop (i + 1) items))
     (deeper (is_kept tested.grounds.version selectors) (index_at (ordinal_in tested) index (drop (i + 1) items) range) reach)) tested new result
-    → Goes (indexes_walk selectors (index_pieces (drop i items)) reach) old new result
+    → FlowGoes (indexes_walk selectors (index_pieces (drop i items)) reach) old new result
 index-step selectors items i index reach {known = known} {range = range} {tested = tested} inside is one two three =
     let more = drop (i + 1) items in
     let behind = behind_walk selectors index more reach in
@@ -90,7 +90,7 @@ index-step selectors items i index reach {known = known} {range = range} {tested
     (λ claims. refl) three)))
 
 pub index-end : (selectors : List Selector) (items : List Expr) (i : ℕ) (reach : Reach) (flow : Flow) → length items ≤ i
-    → Goes (indexes_walk selectors (index_pieces (drop i items)) reach) flow flow reach
+    → FlowGoes (indexes_walk selectors (index_pieces (drop i items)) reach) flow flow reach
 index-end selectors items i reach flow past =
     goes-as (sym (ap (λ indexes. indexes_walk selectors (index_pieces indexes) reach) (drop_of_length-le items past))) (goes-give reach flow)
 
@@ -103,10 +103,10 @@ designators-cut [] one some is = absurd (false≢true (sym some))
 designators-cut (item ∷ items) one some is = ap (λ (first : Designator). first ∷ items) is
 
 pub member-step : (items : List Expr) (i : ℕ) (member : Expr) (gathering : Gathering) {known : Known} {more : Gathering} {old mid gathers new : Flow}
-    {result : Interval} → i < length items → member ≡ get_or items i member → Goes (value_walk member) old mid known
-    → Goes (gathered gathering (known_range known)) mid gathers more
-    → Goes (members_walk (index_pieces (drop (i + 1) items)) more) gathers new result
-    → Goes (members_walk (index_pieces (drop i items)) gathering) old new result
+    {result : Interval} → i < length items → member ≡ get_or items i member → FlowGoes (value_walk member) old mid known
+    → FlowGoes (gathered gathering (known_range known)) mid gathers more
+    → FlowGoes (members_walk (index_pieces (drop (i + 1) items)) more) gathers new result
+    → FlowGoes (members_walk (index_pieces (drop i items)) gathering) old new result
 member-step items i member gathering {known = known} inside is one two three =
     let rest = members_walk (index_pieces (drop (i + 1) items)) in
     goes-as (sym (ap (λ members. members_walk (index_pieces members) gathering) (item-cut items i member inside is)))
@@ -114,7 +114,7 @@ member-step items i member gathering {known = known} inside is one two three =
     (goes-then (gathered gathering (known_range known)) rest two three))
 
 pub member-end : (items : List Expr) (i : ℕ) (gathering : Gathering) (flow : Flow) → length items ≤ i
-    → Goes (members_walk (index_pieces (drop i items)) gathering) flow flow gathering.hull
+    → FlowGoes (members_walk (index_pieces (drop i items)) gathering) flow flow gathering.hull
 member-end items i gathering flow past =
     goes-as (sym (ap (λ members. members_walk (index_pieces members) gathering) (drop_of_length-le items past))) (goes-give gathering.hull flow)
 
@@ -128,7 +128,8 @@ actuals_from items i = actuals_walk (map passed_piece_of (drop i items))
 abbrev pub prefixed : List Actual → Walking (List Actual) → Walking (List Actual)
 prefixed before walk context state = record (walk context state) { value = before ++ (walk context state).value }
 
-pub passed-begun : {walk : Walking (List Actual)} {old new : Flow} {result : List Actual} → Goes (prefixed [] walk) old new result → Goes walk old new result
+pub passed-begun : {walk : Walking (List Actual)} {old new : Flow} {result : List Actual} → FlowGoes (prefixed [] walk) old new result → FlowGoes walk old new
+    result
 passed-begun {walk = walk} goes = goes-alike (prefixed [] walk) walk (λ claims. refl) goes
 
 passed-joined : (passed : List Actual) (value : Actual) (more : List Actual) (after : State) (ids rest : List ℕ) (broken others : List Breach)
@@ -159,9 +160,9 @@ passed-joined passed value more after ids rest broken others linked behind =
     (sym (append-nil behind))
 
 pub passed-step : (items : List Passed) (i : ℕ) (one : Passed) (passed : List Actual) {actual : Actual} {old mid new : Flow} {result : List Actual}
-    → i < length items → one ≡ get_or items i one → Goes (passed_piece_of one).walk old mid actual
-    → Goes (prefixed (passed ++ actual ∷ []) (actuals_from items (i + 1))) mid new result
-    → Goes (prefixed passed (actuals_from items i)) old new result
+    → i < length items → one ≡ get_or items i one → FlowGoes (passed_piece_of one).walk old mid actual
+    → FlowGoes (prefixed (passed ++ actual ∷ []) (actuals_from items (i + 1))) mid new result
+    → FlowGoes (prefixed passed (actuals_from items i)) old new result
 passed-step items i one passed {old = old} inside is first rest =
     let walk = (passed_piece_of one).walk in
     let more = actuals_from items (i + 1) in
@@ -176,7 +177,7 @@ passed-step items i one passed {old = old} inside is first rest =
 
 -- none is left
 pub passed-end : (items : List Passed) (i : ℕ) (passed : List Actual) (flow : Flow) → length items ≤ i
-    → Goes (prefixed passed (actuals_from items i)) flow flow passed
+    → FlowGoes (prefixed passed (actuals_from items i)) flow flow passed
 passed-end items i passed flow past =
     goes-alike (give passed) (prefixed passed (actuals_from items i))
     (λ claims.
@@ -186,8 +187,8 @@ passed-end items i passed flow past =
     (goes-give passed flow)
 
 -- what was passed before was put into a list, of which this is known
-pub passed-pushed : (walk : Walking (List Actual)) (passed kept : List Actual) {old mid new : Flow} {result : List Actual} → Goes (give passed) old mid kept
-    → Goes (prefixed kept walk) mid new result → Goes (prefixed passed walk) old new result
+pub passed-pushed : (walk : Walking (List Actual)) (passed kept : List Actual) {old mid new : Flow} {result : List Actual} → FlowGoes (give passed) old mid kept
+    → FlowGoes (prefixed kept walk) mid new result → FlowGoes (prefixed passed walk) old new result
 passed-pushed walk passed kept pushed goes =
     goes-alike (give passed >>= λ before. prefixed before walk) (prefixed passed walk) (λ claims. refl)
     (goes-then (give passed) (λ before. prefixed before walk) pushed goes)

@@ -13,7 +13,7 @@ use Rattle.typed_tree.specs.declared.tree.Scalar.TheVariants as scalar
 use Rattle.domain.specs.Interval.{truth_values}
 use Rattle.meaning.specs.declared.outcome.Ending.{Ending}
 use Rattle.meaning.specs.declared.outcome.Ending.TheVariants as ending
-use Rattle.meaning.specs.declared.store.Value.TheVariants.{Number}
+use Rattle.meaning.specs.declared.value.Value.TheVariants.{Number}
 use Rattle.meaning.specs.Integers.{truth}
 use Rattle.meaning.specs.Store.{Environment, Store}
 use Rattle.meaning.specs.Effect as effect
@@ -25,21 +25,21 @@ use Rattle.checker_state.proofs.Evaluated.{then-keeps}
 use Rattle.checker_state.proofs.Ranged.{truth_values-has}
 use Rattle.checker_expressions.specs.Walk as walk
 use Rattle.checker_expressions.proofs.Keeping.{keeps-itself}
-use Rattle.checker_expressions.proofs.Sound.{World, Any_value, IsForetold, IsHeld, IsSo, Leaves, Sound, gives-state, good-give, good-stopped, sound-given}
+use Rattle.checker_expressions.proofs.Sound.{World, Any_value, IsForetold, IsHeld, IsSo, SoundLeaves, Sound, gives-state, good-give, good-stopped, sound-given}
 use Rattle.checker_expressions.proofs.Sound.{sound-take_in, take_in-leaves}
 
 -- what is read leaves the store as it is, and so does its test
-pub read-leaves : (reads : Readable) (point : ℕ) → Leaves (meaning.read_as reads point)
+pub read-leaves : (reads : Readable) (point : ℕ) → SoundLeaves (meaning.read_as reads point)
 read-leaves readable.Integer point = take_in-leaves point read_integer
 read-leaves readable.Char point =
     then-keeps (effect.take_in point read_character) (λ c. effect.give (pos c)) (take_in-leaves point read_character)
     (λ c s t n is. ap (λ (x : effect.State). x.store) (gives-state (pos c) n s t is))
 
-unless-leaves : (test : Bool) (e : Ending) → Leaves {A = Unit {0}} (if test then effect.give tt else effect.stop e)
+unless-leaves : (test : Bool) (e : Ending) → SoundLeaves {A = Unit {0}} (if test then effect.give tt else effect.stop e)
 unless-leaves true e s t done is = ap (λ (x : effect.State). x.store) (gives-state tt done s t is)
 unless-leaves false e s t done is = absurd (cc)
 
-pub outside-leaves : (range : OrdinalRange) (point : ℕ) (n : ℤ) → Leaves (meaning.unless_outside range point n)
+pub outside-leaves : (range : OrdinalRange) (point : ℕ) (n : ℤ) → SoundLeaves (meaning.unless_outside range point n)
 outside-leaves range point n = unless-leaves (is_in range (Number n)) (ending.Input point OutsideType)
 
 module _ (world : World) (block : ℕ) (env : Environment) where

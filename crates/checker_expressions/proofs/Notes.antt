@@ -10,7 +10,7 @@ use Rattle.checker_trail.proofs.Ways as ways
 use Rattle.checker_loops.specs.Loops.{Claims}
 use Rattle.checker_expressions.specs.declared.flow.Flow.{Flow}
 use Rattle.checker_expressions.specs.declared.noting.Noted.{Noted}
-use Rattle.checker_expressions.specs.View.{Flowed, Goes, context_of, state_of}
+use Rattle.checker_expressions.specs.View.{Flowed, FlowGoes, context_of, state_of}
 use Rattle.checker_expressions.specs.Walk.{Context, Noting, Piece, Valued, Walking, ◌>>=◌, enter, followed, give, in_turn, joint_of}
 use Rattle.checker_expressions.specs.Walk.{link_walk, noting_walk, operand_noted, piece_of, turns_noted, value_walk, valued, with_noted}
 use Rattle.checker_expressions.proofs.Flows.{first-none, goes-alike, goes-as, goes-behind, goes-give, goes-then}
@@ -26,7 +26,7 @@ noted_behind one first two context state =
 -- notes that are told otherwise
 pub noted-alike : (before : List Noted) (one other : Noting) (walking : Walking Known) {old new : Flow} {value : Valued}
     → ((context : Context) (state : State) → one context state ≡ other context state)
-    → Goes (with_noted before one walking) old new value → Goes (with_noted before other walking) old new value
+    → FlowGoes (with_noted before one walking) old new value → FlowGoes (with_noted before other walking) old new value
 noted-alike before one other walking {old = old} same goes =
     goes-alike (with_noted before one walking) (with_noted before other walking)
     (λ claims.
@@ -35,8 +35,8 @@ noted-alike before one other walking {old = old} same goes =
 
 -- one piece, and then another
 pub noted-then : (before : List Noted) (one : Noting) (first : Walking Known) (two : Known → Noting) (next : Known → Walking Known) {old mid new : Flow}
-    {a b : Valued} → Goes (with_noted before one first) old mid a → Goes (with_noted a.noted (two a.known) (next a.known)) mid new b
-    → Goes (with_noted before (noted_behind one first two) (first >>= next)) old new b
+    {a b : Valued} → FlowGoes (with_noted before one first) old mid a → FlowGoes (with_noted a.noted (two a.known) (next a.known)) mid new b
+    → FlowGoes (with_noted before (noted_behind one first two) (first >>= next)) old new b
 noted-then before one first two next {old = old} goes more =
     let rest = λ (value : Valued). with_noted value.noted (two value.known) (next value.known) in
     goes-alike (with_noted before one first >>= rest) (with_noted before (noted_behind one first two) (first >>= next))
@@ -48,8 +48,8 @@ noted-then before one first two next {old = old} goes more =
     (goes-then (with_noted before one first) rest goes more)
 
 -- a piece in which nothing is noted
-pub noted-none : (noted : List Noted) (walking : Walking Known) {old new : Flow} {a : Known} → Goes walking old new a
-    → Goes (with_noted noted (λ context state. []) walking) old new (record { known = a; noted = noted })
+pub noted-none : (noted : List Noted) (walking : Walking Known) {old new : Flow} {a : Known} → FlowGoes walking old new a
+    → FlowGoes (with_noted noted (λ context state. []) walking) old new (record { known = a; noted = noted })
 noted-none noted walking {old = old} {new = new} {a = a} goes = record {
   unless_short = λ long.
       let flows = goes.unless_short long in
@@ -72,14 +72,14 @@ noted-none noted walking {old = old} {new = new} {a = a} goes = record {
 
 -- an expression in which nothing is noted
 pub noted-plain : (noted : List Noted) (e : Expr) {old new : Flow} {a : Known} → (piece_of e).noted ≡ (λ context state. [])
-    → Goes (value_walk e) old new a → Goes (noting_walk noted e) old new (record { known = a; noted = noted })
+    → FlowGoes (value_walk e) old new a → FlowGoes (noting_walk noted e) old new (record { known = a; noted = noted })
 noted-plain noted e none goes =
     goes-as (ap (λ (noting : Noting). with_noted noted noting (value_walk e)) (sym none)) (noted-none noted (value_walk e) goes)
 
 -- a piece, and then one in which nothing is noted
 pub noted-last : (before : List Noted) (one : Noting) (first : Walking Known) (next : Known → Walking Known) {old mid new : Flow} {a : Valued} {b : Known}
-    → Goes (with_noted before one first) old mid a → Goes (next a.known) mid new b
-    → Goes (with_noted before one (first >>= next)) old new (record { known = b; noted = a.noted })
+    → FlowGoes (with_noted before one first) old mid a → FlowGoes (next a.known) mid new b
+    → FlowGoes (with_noted before one (first >>= next)) old new (record { known = b; noted = a.noted })
 noted-last before one first next {a = a} goes more =
     let none = λ (known : Known). (let no : Noting = λ context state. [] in no) in
     noted-alike before (noted_behind one first none) one (first >>= next) (λ context state. append-nil (one context state))
@@ -87,15 +87,15 @@ noted-last before one first next {a = a} goes more =
 
 -- an entry, and then a piece
 pub noted-entered : (number : ℕ) (before : List Noted) (one : Noting) (walking : Walking Known) {old new : Flow} {value : Valued}
-    → Goes (with_noted before one walking) old new value → Goes (with_noted before one (enter number >>= λ _. walking)) old new value
+    → FlowGoes (with_noted before one walking) old new value → FlowGoes (with_noted before one (enter number >>= λ _. walking)) old new value
 noted-entered number before one walking goes =
     goes-alike (enter number >>= λ _. with_noted before one walking) (with_noted before one (enter number >>= λ _. walking)) (λ claims. refl)
     (goes-behind number (with_noted before one walking) goes)
 
 -- both operands of an operator, the right one behind its walk
-pub noted-operands : (before : List Noted) (left right : Known) (piece : Piece) {noted : List Noted} {old mid new : Flow} → Goes piece.walk old mid right
-    → Goes (give (before ++ record { left = left; right = right } ∷ [])) mid new noted
-    → Goes (with_noted before (operand_noted false left piece) piece.walk) old new (record { known = right; noted = noted })
+pub noted-operands : (before : List Noted) (left right : Known) (piece : Piece) {noted : List Noted} {old mid new : Flow} → FlowGoes piece.walk old mid right
+    → FlowGoes (give (before ++ record { left = left; right = right } ∷ [])) mid new noted
+    → FlowGoes (with_noted before (operand_noted false left piece) piece.walk) old new (record { known = right; noted = noted })
 noted-operands before left right piece {noted = noted} {old = old} {mid = mid} {new = new} goes notes = record {
   unless_short = λ long.
       let rest = notes.unless_short long in
@@ -126,9 +126,9 @@ noting_in_turn before inside links left = with_noted before (turns_noted inside 
 
 pub noted-turn : (before : List Noted) (inside : Bool) (items : List Link) (i : ℕ) (link : Link) (left : Known) {value result : Valued}
     {old mid new : Flow} → i < length items → link ≡ get_or items i link
-    → Goes (with_noted before (operand_noted inside left (piece_of link.operand)) (link_walk link left)) old mid value
-    → Goes (noting_in_turn value.noted inside (drop (i + 1) items) value.known) mid new result
-    → Goes (noting_in_turn before inside (drop i items) left) old new result
+    → FlowGoes (with_noted before (operand_noted inside left (piece_of link.operand)) (link_walk link left)) old mid value
+    → FlowGoes (noting_in_turn value.noted inside (drop (i + 1) items) value.known) mid new result
+    → FlowGoes (noting_in_turn before inside (drop i items) left) old new result
 noted-turn before inside items i link left within is one two =
     let rest = drop (i + 1) items in
     goes-as (sym (ap (λ (links : List Link). noting_in_turn before inside links left) (item-cut items i link within is)))
@@ -137,7 +137,7 @@ noted-turn before inside items i link left within is one two =
     (goes-as (ap (λ (piece : Piece). with_noted before (operand_noted inside left piece) (link_walk link left)) (sym (link-right link))) one) two)
 
 pub noted-end : (before : List Noted) (inside : Bool) (items : List Link) (i : ℕ) (left : Known) (flow : Flow) → length items ≤ i
-    → Goes (noting_in_turn before inside (drop i items) left) flow flow (record { known = left; noted = before })
+    → FlowGoes (noting_in_turn before inside (drop i items) left) flow flow (record { known = left; noted = before })
 noted-end before inside items i left flow past =
     goes-as (sym (ap (λ (links : List Link). noting_in_turn before inside links left) (drop_of_length-le items past)))
     (noted-none before (give left) (goes-give left flow))

@@ -11,7 +11,7 @@ use Rattle.checker_state.specs.declared.value.Known.TheVariants.{Ordinal}
 use Rattle.checker_trail.specs.declared.state.State.{State as Kept}
 use Rattle.checker_trail.specs.Trail.{Moves}
 use Rattle.checker_expressions.specs.declared.flow.Flow.{Flow}
-use Rattle.checker_expressions.specs.View.{Goes, call_range, context_of, range_of_result, state_of}
+use Rattle.checker_expressions.specs.View.{FlowGoes, call_range, context_of, range_of_result, state_of}
 use Rattle.checker_expressions.specs.Walk.{Context, called_block, result_known, result_of, result_walk}
 use Rattle.checker_expressions.proofs.Flows.{first-none, goes-by}
 
@@ -30,7 +30,7 @@ result-is context call (Some result) range state is = ap (λ r. result_known r c
 
 pub result-goes : (call : Call) (range : Interval) (old : Flow) {state : Kept} → Moves (unless_empty range) old.state state
     → range ≡ call_range (context_of old []) call
-    → Goes (λ context. result_walk call (result_of (called_block context call)) context) old (record old { state = state }) (Ordinal range)
+    → FlowGoes (λ context. result_walk call (result_of (called_block context call)) context) old (record old { state = state }) (Ordinal range)
 result-goes call range old moves is =
     goes-by (λ context. result_walk call (result_of (called_block context call)) context) (result_known range (context_of old []) (state_of old))
     (unless_empty range)

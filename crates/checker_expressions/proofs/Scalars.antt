@@ -6,8 +6,8 @@ use Rattle.typed_tree.specs.declared.tree.Scalar.TheVariants as scalar
 use Rattle.typed_tree.specs.Kinds.{Held, held_where, is_held, is_same}
 use Rattle.domain.specs.Hulls.{hull_of-sets}
 use Rattle.domain.specs.Interval.{HasMember, Interval, common}
-use Rattle.meaning.specs.declared.store.Value.{Value}
-use Rattle.meaning.specs.declared.store.Value.TheVariants.{Members, Number}
+use Rattle.meaning.specs.declared.value.Value.{Value}
+use Rattle.meaning.specs.declared.value.Value.TheVariants.{Members, Number}
 use Rattle.meaning.specs.Effect.{members_of, number_of}
 use Rattle.meaning.specs.Kinds.{IsOf}
 use Rattle.checker_state.specs.declared.value.Known.{Known}

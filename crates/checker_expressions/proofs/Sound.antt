@@ -18,8 +18,8 @@ use Rattle.text_input.specs.declared.InputFault.{InputFault}
 use Rattle.text_input.specs.declared.InputFault.TheVariants.{EndOfInput}
 use Rattle.text_input.specs.Input.{Reading, Reads, Fails, Ends}
 use Rattle.meaning.specs.declared.outcome.Ending.TheVariants.{Error, Input as InputEnding}
-use Rattle.meaning.specs.declared.store.Value.{Value}
-use Rattle.meaning.specs.declared.store.Value.TheVariants.{Members, Number}
+use Rattle.meaning.specs.declared.value.Value.{Value}
+use Rattle.meaning.specs.declared.value.Value.TheVariants.{Members, Number}
 use Rattle.meaning.specs.Store.{Environment, Store}
 use Rattle.meaning.specs.Effect as effect
 use Rattle.meaning.specs.Effect.{Action, Reply, Visit, and_then}
@@ -36,7 +36,7 @@ use Rattle.checker_state.proofs.Ranged.{in-present}
 use Rattle.checker_loops.specs.Loops.{Round, touched}
 use Rattle.checker_loops.specs.Pairs.{Listed, aliases_of}
 use Rattle.checker_loops.specs.Sections.{BlockClaims, block_claims_at}
-use Rattle.checker_calls.specs.Environments.{Fine, Leaves as LeavesAll, LeavesPassed, Proper}
+use Rattle.checker_calls.specs.Environments.{Fine, CallLeaves as LeavesAll, LeavesPassed, Proper}
 use Rattle.checker_calls.specs.Exit.{result_range}
 use Rattle.checker_calls.proofs.Claimed.{AllHold}
 use Rattle.checker_calls.proofs.Numbers.{hold-numbers}
@@ -100,7 +100,7 @@ IsClosed world block round =
     → is_among alias (aliases_of world.pairs root) ≡ true → is_among alias (touched round) ≡ true
 
 -- a walk goes by the world
-pub record Goes (world : World) (context : Context) : Type 0 where
+pub record SoundGoes (world : World) (context : Context) : Type 0 where
   pub tree_is : context.tree ≡ world.tree
   pub pairs_are : context.pairs ≡ listed_in world
   pub blocks_are : context.blocks ≡ world.blocks
@@ -108,7 +108,7 @@ pub record Goes (world : World) (context : Context) : Type 0 where
 
 -- a walk goes by the world, and its state holds
 pub record Stands (world : World) (env : Environment) (context : Context) (state : State) (store : Store) : Type 0 where
-  pub goes : Goes world context
+  pub goes : SoundGoes world context
   pub known : Knows (parts_in world) (variables_in world) env state store
 
 -- so a walk stands in a block, where this is visible
@@ -172,8 +172,8 @@ SoundFrom world block env store R action walking =
     → Good world (IsForetold world env R context (walking context state) s.store) s (action s)
 
 -- a piece leaves the store as it is
-abbrev pub Leaves : {A : Type 0} → Action A → Type 0
-Leaves {A} action = (s t : effect.State) (a : A) → action s ≡ effect.Gives a t → t.store ≡ s.store
+abbrev pub SoundLeaves : {A : Type 0} → Action A → Type 0
+SoundLeaves {A} action = (s t : effect.State) (a : A) → action s ≡ effect.Gives a t → t.store ≡ s.store
 
 -- no tie between two values
 abbrev pub Any_value : {A B : Type 0} → B → A → Store → Type 0
@@ -491,12 +491,12 @@ sound-take_in world block env R b point reading tie context state s unbroken par
     good-taken world (IsForetold world env R context (walk.give b context state) s.store) point (reading s.input) s here.fine
     (λ a. record { tie = tie a s.store; stands = here.stands; kept = keeps-itself env context.rounds s.store })
 
-taken-leaves : {A : Type 0} (point : ℕ) (reading : Reading A) → Leaves (effect.taken point reading)
+taken-leaves : {A : Type 0} (point : ℕ) (reading : Reading A) → SoundLeaves (effect.taken point reading)
 taken-leaves point (Reads a rest) s t b is = ap (λ (x : effect.State). x.store) (gives-state a b (record s { input = rest }) t is)
 taken-leaves point (Fails fault) s t b is = absurd (cc)
 taken-leaves point Ends s t b is = absurd (cc)
 
-pub take_in-leaves : {A : Type 0} (point : ℕ) (reading : List ℕ → Reading A) → Leaves (effect.take_in point reading)
+pub take_in-leaves : {A : Type 0} (point : ℕ) (reading : List ℕ → Reading A) → SoundLeaves (effect.take_in point reading)
 take_in-leaves point reading s t b is = taken-leaves point (reading s.input) s t b is
 
 -- an error at a site that is left open

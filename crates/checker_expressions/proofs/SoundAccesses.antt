@@ -34,8 +34,8 @@ use Rattle.typed_tree.specs.Accesses.{Origin, AtVariable, index_count, is_type, 
 use Rattle.typed_tree.specs.Records.{OpenRecord, is_there}
 use Rattle.typed_tree.specs.WellFormed.{Outline, holds, is_held_by, is_value_of, is_visible, is_well_formed_selector, is_well_formed_whole, is_whole}
 use Rattle.typed_tree.specs.WellFormed.{leads_to, leads_to_whole, outline_of}
-use Rattle.meaning.specs.declared.store.Value.{Value}
-use Rattle.meaning.specs.declared.store.Value.TheVariants.{Members, Number}
+use Rattle.meaning.specs.declared.value.Value.{Value}
+use Rattle.meaning.specs.declared.value.Value.TheVariants.{Members, Number}
 use Rattle.meaning.specs.Store.{Environment, Place, Store, held, part}
 use Rattle.meaning.specs.Effect as effect
 use Rattle.meaning.specs.Effect.{fetch, fetch_all, is_in, number_of}
@@ -79,7 +79,7 @@ use Rattle.checker_expressions.proofs.Fitting.{same-type}
 use Rattle.checker_expressions.proofs.Keeping.{Keeps, keeps-itself}
 use Rattle.checker_expressions.proofs.Opened.{AreOpen, Begins, begins-at}
 use Rattle.checker_expressions.proofs.Scalars.{held-known, known-of, number-known, scalar-held}
-use Rattle.checker_expressions.proofs.Sound.{World, Any_value, Good, Here, IsForetold, IsHeld, IsPartOf, Leaves, Sound, SoundFrom, Stands}
+use Rattle.checker_expressions.proofs.Sound.{World, Any_value, Good, Here, IsForetold, IsHeld, IsPartOf, SoundLeaves, Sound, SoundFrom, Stands}
 use Rattle.checker_expressions.proofs.Sound.{declared_in, ordinal_in}
 use Rattle.checker_expressions.proofs.Sound.{errs-here, from-held, from-then, from-weaker, gives-state, good-give, good-then, good-weaker}
 use Rattle.checker_expressions.proofs.Sound.{known-stands, nothing-new}
@@ -144,11 +144,11 @@ module _ (outline : Outline) (block : ℕ) (wanted : TypeId → Bool) (origin : 
 
 -- ---- replies
 
-entered-leaves : (number : ℕ) (env : Environment) → Leaves (effect.enter number env)
+entered-leaves : (number : ℕ) (env : Environment) → SoundLeaves (effect.enter number env)
 entered-leaves number env s t done is = ap (λ (u : effect.State). u.store)
     (gives-state tt done (record s { visited = s.visited ++ record { number = number; environment = env; store = s.store } ∷ [] }) t is)
 
-pub required-leaves : (test : Bool) (site : ℕ) → Leaves (effect.require test site)
+pub required-leaves : (test : Bool) (site : ℕ) → SoundLeaves (effect.require test site)
 required-leaves true site s t done is = ap (λ (u : effect.State). u.store) (gives-state tt done s t is)
 required-leaves false site s t done is = absurd (cc)
 
@@ -161,7 +161,7 @@ required-true false site s t done is = absurd (cc)
 -- the walk over one is sound, unless it holds a call it leaves the store as it is, and its value is of its form, where ordinal variables have numbers
 pub record IndexIsSound (world : World) (block : ℕ) (env : Surroundings) (evaluation : Evaluation) (piece : Piece) : Type 0 where
   pub sound : Sound world block env.visible (IsHeld scalar.Ordinal) (evaluation env) piece.walk
-  pub leaves : piece.holds_call ≡ false → Leaves (evaluation env)
+  pub leaves : piece.holds_call ≡ false → SoundLeaves (evaluation env)
   pub form : (s t : effect.State) (v : Value) → evaluation env s ≡ effect.Gives v t → HoldNumbers (ordinal_in world) (moment env.visible t.store)
       → IsOfForm (moment env.visible t.store) (form_by (ordinal_in world) piece) v
 

@@ -12,7 +12,7 @@ use Rattle.typed_tree.specs.declared.tree.Call.{Call}
 use Rattle.typed_tree.specs.declared.tree.FunctionResult.{FunctionResult}
 use Rattle.typed_tree.specs.declared.tree.Variable.{Variable}
 use Rattle.typed_tree.specs.WellFormed.{declarer, is_round, is_value_kind, is_variable_kind, of_one, outline_of}
-use Rattle.meaning.specs.declared.store.Value.{Value}
+use Rattle.meaning.specs.declared.value.Value.{Value}
 use Rattle.meaning.specs.Effect as effect
 use Rattle.meaning.specs.Meaning as meaning
 use Rattle.meaning.specs.Meaning.{Argument, Passing, Surroundings, all_passed}
@@ -40,7 +40,7 @@ use Rattle.checker_expressions.specs.declared.fault.Rule.TheVariants.{Aliases, C
 use Rattle.checker_expressions.specs.Walk as walk
 use Rattle.checker_expressions.specs.Walk.{Context, PassedPiece, Walked, Walking, actuals_hold_call, actuals_walk, called_block, may_change}
 use Rattle.checker_expressions.proofs.Keeping.{Keeps, keeps-itself}
-use Rattle.checker_expressions.proofs.Sound.{World, Any_value, Called, Good, Goes, Here, IsClosed, IsForetold, IsHeld, IsPartOf, Leaves, LiesInResult}
+use Rattle.checker_expressions.proofs.Sound.{World, Any_value, Called, Good, SoundGoes, Here, IsClosed, IsForetold, IsHeld, IsPartOf, SoundLeaves, LiesInResult}
 use Rattle.checker_expressions.proofs.Sound.{Returned, Sound, SoundCalls, SoundFrom, from-then, gives-state, good-give, good-weaker, is_seen, kept-rule}
 use Rattle.checker_expressions.proofs.Sound.{listed_in}
 use Rattle.checker_expressions.proofs.Sound.{part-left, parts_in, sound-anywhere, sound-enter, sound-give, sound-here, unbroken-left, unbroken-right}
@@ -125,7 +125,7 @@ pub record CallLaws (world : World) : Type 0 where
 abbrev pub in_world : World → Context → Context
 in_world world context = record context { tree = world.tree; pairs = listed_in world; blocks = world.blocks }
 
-pub by-world : (world : World) (context : Context) (P : Context → Type 0) → Goes world context → P (in_world world context) → P context
+pub by-world : (world : World) (context : Context) (P : Context → Type 0) → SoundGoes world context → P (in_world world context) → P context
 by-world world context P goes so =
     subst (λ tree. P (record context { tree = tree })) (sym goes.tree_is)
     (subst (λ pairs. P (record context { tree = world.tree; pairs = pairs })) (sym goes.pairs_are)
@@ -158,7 +158,7 @@ module _ (world : World) (block : ℕ) (env : Surroundings) where
   -- the walk over one is sound, and unless it holds a call it leaves the store as it is
   pub record PassedIsSound (formal : Variable) (passing : Passing) (piece : PassedPiece) : Type 0 where
     pub sound : Sound world block visible (Passes formal) (passing env) piece.walk
-    pub leaves : piece.holds_call ≡ false → Leaves (passing env)
+    pub leaves : piece.holds_call ≡ false → SoundLeaves (passing env)
 
   abbrev pub AllPassed : List ℕ → List Passing → List PassedPiece → Type 0
   AllPassed [] [] [] = Unit {0}
@@ -169,7 +169,7 @@ module _ (world : World) (block : ℕ) (env : Surroundings) where
 
   -- actual parameters that hold no call leave the store as it is
   all-leaves : (roots : List ℕ) (passings : List Passing) (pieces : List PassedPiece) → AllPassed roots passings pieces
-      → actuals_hold_call pieces ≡ false → Leaves (all_passed passings env)
+      → actuals_hold_call pieces ≡ false → SoundLeaves (all_passed passings env)
   all-leaves [] [] [] all quiet = λ s t arguments is. ap (λ (u : effect.State). u.store) (gives-state [] arguments s t is)
   all-leaves [] [] (piece ∷ pieces) all quiet = absurd all
   all-leaves [] (passing ∷ passings) pieces all quiet = absurd all
@@ -287,7 +287,7 @@ module _ (world : World) (block : ℕ) (env : Surroundings) where
     changed = roots_changed bindings claims.changes
 
     -- the loops round the call keep what they don't touch
-    call-keeps : (context : Context) (state : State) (s t : effect.State) (v : Value) → Goes world context → context.block ≡ block
+    call-keeps : (context : Context) (state : State) (s t : effect.State) (v : Value) → SoundGoes world context → context.block ≡ block
         → MayCall world block call.block callee visible state actuals arguments s → list_all (may_change (in_world world context)) changed ≡ true
         → Returned world call.block callee arguments visible s v t.store → Keeps visible context.rounds s.store t.store
     call-keeps context state s t v goes block_is may lists returned round inside = record {

@@ -53,8 +53,8 @@ use Rattle.typed_tree.specs.WellFormed.{are_well_formed, is_well_formed_value, i
 use Rattle.typed_tree.specs.WellFormed.{source_of, tests_type, whole_indexes}
 use Rattle.members.specs.Members as sets
 use Rattle.members.specs.declared.sets.Operator.TheVariants as operator
-use Rattle.meaning.specs.declared.store.Value.{Value}
-use Rattle.meaning.specs.declared.store.Value.TheVariants.{Members, Number}
+use Rattle.meaning.specs.declared.value.Value.{Value}
+use Rattle.meaning.specs.declared.value.Value.TheVariants.{Members, Number}
 use Rattle.meaning.specs.Integers.{truth}
 use Rattle.meaning.specs.Store.{Environment, Place, Store, part}
 use Rattle.meaning.specs.Effect as effect
@@ -85,7 +85,7 @@ use Rattle.checker_expressions.proofs.Inputs.{asked-sound}
 use Rattle.checker_expressions.proofs.Keeping.{keeps-itself}
 use Rattle.checker_expressions.proofs.Opened.{AreOpen}
 use Rattle.checker_expressions.proofs.Scalars.{held-is, held-where, known-of, number-known}
-use Rattle.checker_expressions.proofs.Sound.{World, Any_value, IsForetold, IsHeld, IsSo, Leaves, LiesInResult, Passes, Sound, SoundCalls, declared_in}
+use Rattle.checker_expressions.proofs.Sound.{World, Any_value, IsForetold, IsHeld, IsSo, SoundLeaves, LiesInResult, Passes, Sound, SoundCalls, declared_in}
 use Rattle.checker_expressions.proofs.Sound.{from-held, from-then, gives-state, good-give, ordinal_in, sound-by_tree, sound-checked, sound-tested}
 use Rattle.checker_expressions.proofs.Sound.{sites_in, sound-anywhere, sound-enter, sound-give, sound-given, sound-here, sound-named, sound-then, sound-written}
 use Rattle.checker_expressions.proofs.Sound.{types_in}
@@ -518,7 +518,7 @@ module _ (world : World) (block : ℕ) (env : Surroundings) (records : List Open
       record {
         sound = subst (λ (w : Walking Actual). Sound world block visible R (passing env) w) (sym walk_is)
             (subst (λ (p : Passing). Sound world block visible R (p env) (walk.whole_passed value pieces)) (sym passing_is) sound_here);
-        leaves = λ quiet. subst (λ (p : Passing). Leaves (p env)) (sym passing_is)
+        leaves = λ quiet. subst (λ (p : Passing). SoundLeaves (p env)) (sym passing_is)
             (λ s t argument is.
             let first = then-gives (action s) next argument t is in
             ap (λ (x : effect.State). x.store) (gives-state (meaning.OfRow first.1) argument first.0 t first.3)
@@ -586,7 +586,7 @@ module _ (world : World) (block : ℕ) (env : Surroundings) (records : List Open
       record {
         sound = subst (λ (w : Walking Actual). Sound world block visible R (passing env) w) (sym walk_is)
             (subst (λ (p : Passing). Sound world block visible R (p env) (walk.variable_passed access pieces)) (sym passing_is) sound_here);
-        leaves = λ quiet. subst (λ (p : Passing). Leaves (p env)) (sym passing_is)
+        leaves = λ quiet. subst (λ (p : Passing). SoundLeaves (p env)) (sym passing_is)
             (λ s t argument is.
             let first = then-gives (action s) next argument t is in
             ap (λ (x : effect.State). x.store) (gives-state (meaning.OfPlace first.1) argument first.0 t first.3)

@@ -22,8 +22,8 @@ use Rattle.typed_tree.specs.Kinds.{taken_right}
 use Rattle.typed_tree.specs.Records.{Begin, OpenRecord, all_begin, begins, expression_begins, link_begins, passed_begin, passed_begins}
 use Rattle.typed_tree.specs.WellFormed.{Outline, all_hold, dyadic_is_well_formed, expr_is_well_formed, is_well_formed_expr, is_well_formed_link}
 use Rattle.typed_tree.specs.WellFormed.{is_well_formed_passed, link_is_well_formed, monadic_is_well_formed, outline_of, passed_is_well_formed}
-use Rattle.meaning.specs.declared.store.Value.{Value}
-use Rattle.meaning.specs.declared.store.Value.TheVariants.{Number}
+use Rattle.meaning.specs.declared.value.Value.{Value}
+use Rattle.meaning.specs.declared.value.Value.TheVariants.{Number}
 use Rattle.meaning.specs.Store.{Environment, Store}
 use Rattle.meaning.specs.Effect as effect
 use Rattle.meaning.specs.Effect.{number_of}

@@ -24,8 +24,8 @@ use Rattle.domain.specs.Interval.{Interval, HasMember, has_number, is_included, 
 use Rattle.domain.specs.Interval.{truth_values}
 use Rattle.domain.specs.Ranges.{sum-has, difference-has, negated-has, product-has, squared-has, absolute-has, quotient-has, remainder-has, without_zero_end-has}
 use Rattle.domain.specs.Ranges.{at_least-has, both-has, either-has, complement-has}
-use Rattle.meaning.specs.declared.store.Value.{Value}
-use Rattle.meaning.specs.declared.store.Value.TheVariants.{Members, Number}
+use Rattle.meaning.specs.declared.value.Value.{Value}
+use Rattle.meaning.specs.declared.value.Value.TheVariants.{Members, Number}
 use Rattle.meaning.specs.Integers.{is_integer_number, is_true, is_odd, truth}
 use Rattle.meaning.specs.Store.{Environment, Store}
 use Rattle.meaning.specs.Effect as effect

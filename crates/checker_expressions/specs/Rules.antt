@@ -5,10 +5,10 @@ use Rattle.checker_expressions.specs.declared.fault.Rule.TheVariants.{LoopEntry,
 use Rattle.checker_expressions.specs.declared.fault.Rule.TheVariants.{Changes}
 
 -- the number of a rule behind the letter C
-abbrev pub number_of : Rule → ℕ
-number_of LoopEntry = 2
-number_of LoopTurn = 3
-number_of Exit = 4
-number_of CallEntry = 5
-number_of Aliases = 6
-number_of Changes = 7
+abbrev pub code_of : Rule → ℕ
+code_of LoopEntry = 2
+code_of LoopTurn = 3
+code_of Exit = 4
+code_of CallEntry = 5
+code_of Aliases = 6
+code_of Changes = 7

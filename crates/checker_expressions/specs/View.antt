@@ -11,7 +11,7 @@ use Rattle.typed_tree.specs.Entries.{entries_of_expression}
 use Rattle.domain.specs.Interval.{Interval, held}
 use Rattle.checker_rows.specs.Limits.{integer}
 use Rattle.checker_state.specs.State.{State}
-use Rattle.checker_trail.specs.Trail.{Goes as WayGoes, seen}
+use Rattle.checker_trail.specs.Trail.{TrailGoes as WayGoes, seen}
 use Rattle.checker_loops.specs.Loops.{Claims}
 use Rattle.checker_loops.specs.View.{loop_of_round}
 use Rattle.checker_loops.specs.Sections.{BlockClaims, block_claims_at}
@@ -80,7 +80,7 @@ pub record Flows {A : Type 0} (walking : Walking A) (old new : Flow) (value : A)
   pub flowed : (claims : List Claims) → Flowed (context_of old claims) walking old new value
 
 -- the same unless memory ran out
-pub record Goes {A : Type 0} (walking : Walking A) (old new : Flow) (value : A) : Type 0 where
+pub record FlowGoes {A : Type 0} (walking : Walking A) (old new : Flow) (value : A) : Type 0 where
   pub unless_short : new.state.refused ≡ None → Flows walking old new value
 
 -- a range of the program is that of some results; where it is tested whether these are integers, its ends may be held

@@ -4,29 +4,27 @@ ghost use Rattle.std.specs.List.{list_all};
 ghost use Rattle.checker_calls.specs.Actuals.{actual_of, bound_to};
 ghost use Rattle.checker_calls.specs.Exit.{root_changed};
 ghost use Rattle.checker_calls.specs.View.{said_actual, said_bindings, said_found};
-ghost use Rattle.checker_expressions.specs.View.{Goes, block_called, call_range, claims_called, context_of};
+ghost use Rattle.checker_expressions.specs.View.{FlowGoes, block_called, call_range, claims_called, context_of};
 ghost use Rattle.checker_expressions.specs.View.{found_block};
 ghost use Rattle.checker_expressions.specs.Walk.{around_of, call_aliases, call_change, call_entry, call_with};
 ghost use Rattle.checker_expressions.specs.Walk.{called, called_block, may_change, parameters_of, result_of};
 ghost use Rattle.checker_expressions.specs.Walk.{result_walk};
 
-use crate::fault::Rule;
-use crate::flow::Flow;
-use checker_calls::actuals::{Actual, Bindings, settle};
+use crate::{Flow, Rule};
 use checker_calls::changes::root_changed;
-use checker_calls::entry::are_given;
 use checker_calls::exit::{self, result_range};
 use checker_calls::overlaps::are_separate;
-use checker_loops::sections::block_claims_at;
+use checker_calls::{Actual, Bindings, are_given, settle};
+use checker_loops::block_claims_at;
 use checker_rows::Rows;
 use checker_state::Known;
-use domain::interval::Interval;
-use typed_tree::tree::{Block, Call, FunctionResult};
+use domain::Interval;
+use typed_tree::{Block, Call, FunctionResult};
 
 impl<'a> Flow<'a> {
     /// A call from its actual parameters on, of which one may hold a call.
     pub(crate) fn called(&mut self, call: Call, holds_call: bool, actuals: Vec<Actual>)
-        ensures { Goes (called call holds_call (map said_actual actuals.entry.items)) self.old self.new tt }
+        ensures { FlowGoes (called call holds_call (map said_actual actuals.entry.items)) self.old self.new tt }
     {
         let mut actuals = actuals;
         settle(holds_call, &mut actuals);
@@ -36,7 +34,7 @@ impl<'a> Flow<'a> {
 
     /// A call with these formal and actual parameters.
     fn call_with<'b>(&mut self, call: Call, roots: &'b [u32], actuals: &'b [Actual])
-        ensures { Goes (λ context. call_with call (claims_called context call)
+        ensures { FlowGoes (λ context. call_with call (claims_called context call)
             (bound_to roots.now (map said_actual actuals.now)) context) self.old self.new tt }
     {
         let bindings = Bindings { roots, actuals };
@@ -57,7 +55,7 @@ impl<'a> Flow<'a> {
 
     /// What is passed makes listed aliases alone.
     fn ask_aliases(&mut self, call: Call, bindings: Bindings)
-        ensures { Goes (call_aliases call (said_bindings bindings.entry)) self.old self.new tt }
+        ensures { FlowGoes (call_aliases call (said_bindings bindings.entry)) self.old self.new tt }
     {
         let alloc = *self.open_ids.allocator();
         let around = around(self.state.table(), call);
@@ -75,7 +73,8 @@ impl<'a> Flow<'a> {
 
     /// The facts are given that hold where the callee begins.
     fn ask_entry(&mut self, call: Call, bindings: Bindings)
-        ensures { Goes (λ context. call_entry call (said_bindings bindings.entry) (claims_called context call) context)
+        ensures { FlowGoes (λ context. call_entry call (said_bindings bindings.entry) (claims_called context call)
+            context)
             self.old self.new tt }
     {
         let claims = block_claims_at(&self.grounds.sections, call.block);
@@ -85,7 +84,7 @@ impl<'a> Flow<'a> {
 
     /// The call changes what it may, by the variables that the callee lists.
     fn ask_change(&mut self, call: Call, bindings: Bindings)
-        ensures { Goes (λ context. call_change call.name (said_bindings bindings.entry) (claims_called context call)
+        ensures { FlowGoes (λ context. call_change call.name (said_bindings bindings.entry) (claims_called context call)
             context) self.old self.new tt }
     {
         let claims = block_claims_at(&self.grounds.sections, call.block);
@@ -115,7 +114,7 @@ impl<'a> Flow<'a> {
 
     /// The value of a function that was called: no run goes on from an empty range.
     pub(crate) fn result(&mut self, call: Call) -> Known
-        ensures { Goes (λ context. result_walk call (result_of (called_block context call)) context)
+        ensures { FlowGoes (λ context. result_walk call (result_of (called_block context call)) context)
             self.old self.new result }
     {
         let range = self.result_range(call);

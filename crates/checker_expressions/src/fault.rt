@@ -25,11 +25,11 @@ pub enum Rule {
 }
 
 impl Rule {
-    ghost use Rattle.checker_expressions.specs.Rules.{number_of};
+    ghost use Rattle.checker_expressions.specs.Rules.{code_of};
 
     /// Its number behind the letter C, from 2 to 7.
     pub fn number(self) -> u8
-        ensures { result ≡ number_of self }
+        ensures { result ≡ code_of self }
     {
         match self {
             Rule::LoopEntry => 2,

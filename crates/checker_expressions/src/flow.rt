@@ -1,17 +1,14 @@
 ghost use Rattle.std.specs.Prelude.{◌≡◌};
-ghost use Rattle.checker_expressions.specs.View.{Goes, first_of, opened};
+ghost use Rattle.checker_expressions.specs.View.{FlowGoes, first_of, opened};
 ghost use Rattle.checker_expressions.specs.Walk.{asked, breach_unless, checked, first_breach, fitting, tested, within};
 
-use crate::fault::{Breach, Rule};
-use crate::grounds::Grounds;
-use crate::values::{lies_in, limited, unless_none};
+use crate::{Breach, Grounds, Rule, lies_in, limited, unless_none};
 use checker_rows::{Rows, limits};
 use checker_state::Known;
 use checker_trail::State;
-use domain::Domain;
-use domain::interval::Interval;
+use domain::{Domain, Interval};
 use place::Place;
-use typed_tree::tree::RangeTest;
+use typed_tree::RangeTest;
 
 /// The flow of a walk through a program: what it comes with to each expression, and goes on with behind it. Where
 /// memory ran out, its state is short, and the flow says nothing more.
@@ -30,7 +27,7 @@ pub struct Flow<'a> {
 impl<'a> Flow<'a> {
     /// What a rule asks for at a place. The first breach is kept.
     pub fn ask(&mut self, kept: bool, rule: Rule, place: Place)
-        ensures { Goes (asked kept rule place) self.old self.new tt }
+        ensures { FlowGoes (asked kept rule place) self.old self.new tt }
     {
         if !kept {
             self.broken = first_of(self.broken, Breach { rule, place });
@@ -39,7 +36,7 @@ impl<'a> Flow<'a> {
 
     /// Leaves a site open, unless it is closed.
     pub fn open_unless(&mut self, closed: bool, site: u32)
-        ensures { Goes (opened closed site) self.old self.new tt }
+        ensures { FlowGoes (opened closed site) self.old self.new tt }
     {
         if closed {
             return;
@@ -51,7 +48,7 @@ impl<'a> Flow<'a> {
 
     /// A value that has to lie in the range of a type: its number, or its members.
     pub fn fitting(&mut self, fits: RangeTest, known: Known) -> Known
-        ensures { Goes (fitting fits known) self.old self.new result }
+        ensures { FlowGoes (fitting fits known) self.old self.new result }
     {
         let limits = limits(fits.range);
         let closed = lies_in(&limits, &known);
@@ -63,14 +60,14 @@ impl<'a> Flow<'a> {
 
     /// A number that has to lie in limits.
     pub fn within(&mut self, limits: Interval, site: u32, range: Interval) -> Interval
-        ensures { Goes (within limits site range) self.old self.new result }
+        ensures { FlowGoes (within limits site range) self.old self.new result }
     {
         self.test(range.leq(&limits), site, range.meet(&limits))
     }
 
     /// The test of a number at a site: what passes lies in a range, and it is closed where the number surely passes.
     pub fn test(&mut self, closed: bool, site: u32, passed: Interval) -> Interval
-        ensures { Goes (tested closed site passed) self.old self.new result }
+        ensures { FlowGoes (tested closed site passed) self.old self.new result }
     {
         self.check(closed, site);
         self.state.unless_empty(passed);
@@ -79,7 +76,7 @@ impl<'a> Flow<'a> {
 
     /// A test at a site, of which nothing more is known behind it: closed where it surely passes.
     pub(crate) fn check(&mut self, closed: bool, site: u32)
-        ensures { Goes (checked closed site) self.old self.new tt }
+        ensures { FlowGoes (checked closed site) self.old self.new tt }
     {
         let is_closed = self.state.is_dead() || closed;
         self.open_unless(is_closed, site);

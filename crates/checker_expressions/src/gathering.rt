@@ -1,13 +1,12 @@
 //! The members of a set constructor (ISO 7185:1990, 6.7.1), one after another.
 ghost use Rattle.std.specs.Prelude.{◌≡◌};
-ghost use Rattle.checker_expressions.specs.View.{Goes, said_gathering};
+ghost use Rattle.checker_expressions.specs.View.{FlowGoes, said_gathering};
 ghost use Rattle.checker_expressions.specs.Walk.{between_walk, gathered, member_walk, none_gathered};
 
-use crate::flow::Flow;
+use crate::Flow;
 use checker_state::{is_closed_member, is_closed_range, tested_member, with_member, with_members};
-use domain::hull::Hull;
-use domain::interval::Interval;
-use typed_tree::tree::Designator;
+use domain::{Hull, Interval};
+use typed_tree::Designator;
 
 /// Where a set constructor is evaluated.
 #[derive(Drop)]
@@ -40,7 +39,7 @@ impl<'a> Flow<'a> {
         gathering: Gathering<'b>,
         range: Interval,
     ) -> Gathering<'b>
-        ensures { Goes (gathered (said_gathering gathering.entry) range) self.old self.new (said_gathering result) }
+        ensures { FlowGoes (gathered (said_gathering gathering.entry) range) self.old self.new (said_gathering result) }
     {
         let Gathering { hull, left, first } = gathering;
         if left.is_empty() {
@@ -69,7 +68,7 @@ impl<'a> Flow<'a> {
 
     /// A set with a member more, which is tested.
     fn member(&mut self, site: u32, range: Interval, hull: Hull) -> Hull
-        ensures { Goes (member_walk site range hull) self.old self.new result }
+        ensures { FlowGoes (member_walk site range hull) self.old self.new result }
     {
         let passed = self.test(is_closed_member(&range), site, tested_member(&range));
         with_member(&hull, &passed)
@@ -77,7 +76,7 @@ impl<'a> Flow<'a> {
 
     /// A set with all members from a first to a last one more, which are tested if there are any.
     fn members_between(&mut self, site: u32, first: Interval, last: Interval, hull: Hull) -> Hull
-        ensures { Goes (between_walk site first last hull) self.old self.new result }
+        ensures { FlowGoes (between_walk site first last hull) self.old self.new result }
     {
         self.check(is_closed_range(&first, &last), site);
         with_members(&hull, &first, &last)

@@ -4,12 +4,9 @@ ghost use Rattle.checker_loops.specs.Starts.{is_own};
 ghost use Rattle.checker_expressions.specs.View.{context_of};
 ghost use Rattle.checker_expressions.specs.Walk.{block_lists, may_change};
 
-use crate::flow::Flow;
-use checker_loops::pairs::Pairs;
-use checker_loops::rounds::{Round, all_list};
-use checker_loops::sections::{BlockSection, block_claims_at};
-use checker_loops::starts::is_own;
-use domain::versions::Version;
+use crate::Flow;
+use checker_loops::{BlockSection, Pairs, Round, all_list, block_claims_at, is_own};
+use domain::Version;
 
 /// What a walk goes by. What is claimed of loops stands beside it: nothing here depends on that.
 #[derive(Drop)]

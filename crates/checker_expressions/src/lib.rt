@@ -14,3 +14,9 @@ mod results;
 mod uses;
 mod values;
 mod walk;
+
+pub use count::Count;
+pub use fault::{Breach, CheckFault, Rule};
+pub use flow::Flow;
+pub use grounds::Grounds;
+pub(crate) use values::{held_in, hull, lies_in, limited, unless_none};

@@ -2,15 +2,14 @@
 ghost use Rattle.std.specs.Prelude.{◌≡◌, ◌++◌, ◌∷◌, [], map};
 ghost use Rattle.std.specs.List.{list_all};
 ghost use Rattle.typed_tree.specs.Entries.{entries_of_expression, joined};
-ghost use Rattle.checker_expressions.specs.View.{Goes, entries_of_link};
+ghost use Rattle.checker_expressions.specs.View.{FlowGoes, entries_of_link};
 ghost use Rattle.checker_expressions.specs.Visits.{all_counted};
 ghost use Rattle.checker_expressions.specs.Walk.{first_noted, give, in_turn, joint_of, joins, link_walk, noting_walk};
 ghost use Rattle.checker_expressions.specs.Walk.{operand_noted, piece_of, turns_noted, value_walk, with_noted};
 
-use crate::count::Count;
-use crate::flow::Flow;
+use crate::{Count, Flow};
 use checker_state::Known;
-use typed_tree::tree::{Dyadic, Expr, Link};
+use typed_tree::{Dyadic, Expr, Link};
 
 /// What is known of both operands of an operator, each behind its own sites.
 #[derive(Clone, Copy)]
@@ -31,7 +30,7 @@ impl<'a> Flow<'a> {
         noted: &mut Vec<Noted>,
         visits: &mut C,
     ) -> Known
-        ensures goes { Goes (noting_walk noted.old.items expression.now) self.old self.new
+        ensures goes { FlowGoes (noting_walk noted.old.items expression.now) self.old self.new
             (record { known = result; noted = noted.new.items }) }
         ensures counts { visits.new ≡ all_counted C.counted (entries_of_expression expression.now) visits.old }
     {
@@ -68,7 +67,7 @@ impl<'a> Flow<'a> {
         noted: &mut Vec<Noted>,
         visits: &mut C,
     ) -> Known
-        ensures goes { Goes (with_noted noted.old.items (first_noted inside (piece_of first.now))
+        ensures goes { FlowGoes (with_noted noted.old.items (first_noted inside (piece_of first.now))
             (value_walk first.now)) self.old self.new (record { known = result; noted = noted.new.items }) }
         ensures counts { visits.new ≡ all_counted C.counted (entries_of_expression first.now) visits.old }
     {
@@ -90,7 +89,7 @@ impl<'a> Flow<'a> {
         noted: &mut Vec<Noted>,
         visits: &mut C,
     ) -> Known
-        ensures goes { Goes (with_noted noted.old.items (turns_noted inside (map joint_of links.now) left)
+        ensures goes { FlowGoes (with_noted noted.old.items (turns_noted inside (map joint_of links.now) left)
             (in_turn (map link_walk links.now) left)) self.old self.new
             (record { known = result; noted = noted.new.items }) }
         ensures counts { visits.new ≡ all_counted C.counted (joined (map entries_of_link links.now)) visits.old }
@@ -112,7 +111,7 @@ impl<'a> Flow<'a> {
         noted: &mut Vec<Noted>,
         visits: &mut C,
     ) -> Known
-        ensures goes { Goes (with_noted noted.old.items (operand_noted inside left (piece_of link.now.operand))
+        ensures goes { FlowGoes (with_noted noted.old.items (operand_noted inside left (piece_of link.now.operand))
             (link_walk link.now left)) self.old self.new (record { known = result; noted = noted.new.items }) }
         ensures counts { visits.new ≡ all_counted C.counted (entries_of_link link.now) visits.old }
     {
@@ -131,7 +130,7 @@ impl<'a> Flow<'a> {
         noted: &mut Vec<Noted>,
         visits: &mut C,
     ) -> Known
-        ensures goes { Goes (with_noted noted.old.items (operand_noted inside left.now (piece_of operand.now))
+        ensures goes { FlowGoes (with_noted noted.old.items (operand_noted inside left.now (piece_of operand.now))
             (value_walk operand.now)) self.old self.new (record { known = result; noted = noted.new.items }) }
         ensures counts { visits.new ≡ all_counted C.counted (entries_of_expression operand.now) visits.old }
     {
@@ -145,7 +144,8 @@ impl<'a> Flow<'a> {
 
     /// Notes the operands of an operator behind others.
     fn note(&mut self, left: &Known, right: &Known, noted: &mut Vec<Noted>)
-        ensures { Goes (give (noted.old.items ++ record { left = left.now; right = right.now } ∷ [])) self.old self.new
+        ensures { FlowGoes (give (noted.old.items ++ record { left = left.now; right = right.now } ∷ [])) self.old
+            self.new
             noted.new.items }
     {
         let one = Noted {

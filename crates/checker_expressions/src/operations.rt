@@ -1,24 +1,22 @@
 //! Operations and tests, which enter nothing.
 ghost use Rattle.std.specs.Prelude.{◌≡◌};
 ghost use Rattle.checker_state.specs.Values.{known_range, operated_sets};
-ghost use Rattle.checker_expressions.specs.View.{Goes};
+ghost use Rattle.checker_expressions.specs.View.{FlowGoes};
 ghost use Rattle.checker_expressions.specs.Walk.{calculated_both, combined, divides, divisor, hull_known, index_test};
 ghost use Rattle.checker_expressions.specs.Walk.{operated, positive, unless_overflow, width_test};
 
-use crate::flow::Flow;
 use crate::results::{calculated, of_both, overflow_of, overflow_of_both, shifted};
-use crate::values::hull;
+use crate::{Flow, hull};
 use checker_rows::limits;
 use checker_state::{Known, operated_sets};
-use domain::hull::Hull;
-use domain::interval::Interval;
+use domain::{Hull, Interval};
 use members::sets::Operator;
-use typed_tree::tree::{Dyadic, Monadic, RangeTest};
+use typed_tree::{Dyadic, Monadic, RangeTest};
 
 impl<'a> Flow<'a> {
     /// The test of an index, if selectors take it: where it lies then.
     pub(crate) fn index(&mut self, fits: Option<RangeTest>, known: Known) -> Interval
-        ensures { Goes (index_test fits known) self.old self.new result }
+        ensures { FlowGoes (index_test fits known) self.old self.new result }
     {
         match fits {
             None => known.range(),
@@ -28,7 +26,7 @@ impl<'a> Flow<'a> {
 
     /// What an operation gives for a value.
     pub(crate) fn operated(&mut self, operation: Monadic, known: Known) -> Known
-        ensures { Goes (operated operation known) self.old self.new result }
+        ensures { FlowGoes (operated operation known) self.old self.new result }
     {
         let range = known.range();
         match operation {
@@ -46,7 +44,7 @@ impl<'a> Flow<'a> {
     /// What an operation gives for two values: for two sets (ISO 7185:1990, 6.7.2.4), a relation of them or a member
     /// and a set (6.7.2.5), or else for two numbers.
     pub(crate) fn combined(&mut self, operation: Dyadic, left: Known, right: Known) -> Known
-        ensures { Goes (combined operation left right) self.old self.new result }
+        ensures { FlowGoes (combined operation left right) self.old self.new result }
     {
         match operation {
             Dyadic::Plus { .. } => self.calculated_both(operation, left, right),
@@ -67,7 +65,7 @@ impl<'a> Flow<'a> {
 
     /// What an operation gives for two numbers.
     fn calculated_both(&mut self, operation: Dyadic, left: Known, right: Known) -> Known
-        ensures { Goes (calculated_both operation (known_range left) (known_range right)) self.old self.new result }
+        ensures { FlowGoes (calculated_both operation (known_range left) (known_range right)) self.old self.new result }
     {
         let left = left.range();
         let passed = self.divides(operation, right.range());
@@ -79,7 +77,7 @@ impl<'a> Flow<'a> {
 
     /// The test of a right operand, where it is a divisor.
     fn divides(&mut self, operation: Dyadic, range: Interval) -> Interval
-        ensures { Goes (divides operation range) self.old self.new result }
+        ensures { FlowGoes (divides operation range) self.old self.new result }
     {
         match operation {
             Dyadic::Plus { .. } => range,
@@ -100,7 +98,7 @@ impl<'a> Flow<'a> {
 
     /// A result that has to be an integer, where its overflow has a site.
     fn unless_overflow(&mut self, overflow: Option<u32>, range: Interval) -> Known
-        ensures { Goes (unless_overflow overflow range) self.old self.new result }
+        ensures { FlowGoes (unless_overflow overflow range) self.old self.new result }
     {
         match overflow {
             None => Known::Ordinal(range),
@@ -110,7 +108,7 @@ impl<'a> Flow<'a> {
 
     /// A width has to be at least 1.
     pub(crate) fn width_test(&mut self, site: u32, known: Known)
-        ensures { Goes (width_test site known) self.old self.new tt }
+        ensures { FlowGoes (width_test site known) self.old self.new tt }
     {
         let range = known.range();
         self.positive(site, range);
@@ -118,14 +116,14 @@ impl<'a> Flow<'a> {
 
     /// A number that has to be at least 1.
     fn positive(&mut self, site: u32, range: Interval) -> Interval
-        ensures { Goes (positive site range) self.old self.new result }
+        ensures { FlowGoes (positive site range) self.old self.new result }
     {
         self.test(1 <= range.first(), site, range.at_least(1))
     }
 
     /// A divisor, which may not be 0.
     fn divisor(&mut self, site: u32, range: Interval) -> Interval
-        ensures { Goes (divisor site range) self.old self.new result }
+        ensures { FlowGoes (divisor site range) self.old self.new result }
     {
         self.test(!range.has(0), site, range.without_zero_end())
     }

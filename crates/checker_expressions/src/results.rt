@@ -4,8 +4,8 @@ ghost use Rattle.checker_expressions.specs.View.{IsRangeOf};
 ghost use Rattle.checker_expressions.specs.Walk.{calculated, of_both, shifted};
 ghost use Rattle.meaning.specs.Meaning.{overflow_of, overflow_of_both};
 
-use domain::interval::Interval;
-use typed_tree::tree::{Calculation, Dyadic, Shift};
+use domain::Interval;
+use typed_tree::{Calculation, Dyadic, Shift};
 
 /// The range of what is calculated from the numbers of a range (ISO 7185:1990, 6.7.2.2, 6.7.2.3, 6.6.6).
 pub(crate) fn calculated(does: Calculation, range: Interval) -> Interval

@@ -6,21 +6,19 @@ ghost use Rattle.typed_tree.specs.Accesses.{origin_of};
 ghost use Rattle.checker_state.specs.State.{is_dead};
 ghost use Rattle.checker_state.specs.View.{said_reach};
 ghost use Rattle.checker_trail.specs.Trail.{Moves, seen};
-ghost use Rattle.checker_expressions.specs.View.{Goes, state_of};
+ghost use Rattle.checker_expressions.specs.View.{FlowGoes, state_of};
 ghost use Rattle.checker_expressions.specs.Walk.{all_defined, all_joined, give, is_covered, ranges_of, text_range};
 ghost use Rattle.checker_expressions.specs.Walk.{value_use, whole_use, with_used};
 
-use crate::flow::Flow;
-use crate::values::{held_in, unless_none};
-use checker_calls::actuals::is_entire;
+use crate::{Flow, held_in, unless_none};
+use checker_calls::is_entire;
 use checker_rows::Span;
 use checker_state::{Known, Reach};
 use checker_trail::State;
-use domain::Domain;
-use domain::interval::Interval;
+use domain::{Domain, Interval};
 use memory::Refused;
 use std::alloc::{AllocError, Global};
-use typed_tree::tree::{Access, Scalar};
+use typed_tree::{Access, Scalar};
 use types::TypeId;
 
 impl<'a> Flow<'a> {
@@ -32,7 +30,7 @@ impl<'a> Flow<'a> {
         reach: &Reach,
         defined: u32,
     ) -> Known
-        ensures { Goes (value_use holds (origin_of access.now) access.now.selectors.items
+        ensures { FlowGoes (value_use holds (origin_of access.now) access.now.selectors.items
             (said_reach reach.now) defined) self.old self.new result }
     {
         let span = self.state.table().accessed(access);
@@ -52,7 +50,7 @@ impl<'a> Flow<'a> {
         reach: &Reach,
         defined: u32,
     ) -> Vec<Interval>
-        ensures { Goes (whole_use type_id (origin_of access.now) access.now.selectors.items
+        ensures { FlowGoes (whole_use type_id (origin_of access.now) access.now.selectors.items
             (said_reach reach.now) defined) self.old self.new result.items }
     {
         let span = self.state.table().accessed(access);
@@ -87,7 +85,7 @@ impl<'a> Flow<'a> {
 
     /// The ranges of rows.
     fn ranges(&mut self, span: Span) -> Vec<Interval>
-        ensures { Goes (λ context state. give (ranges_of state (numbers span)) context state)
+        ensures { FlowGoes (λ context state. give (ranges_of state (numbers span)) context state)
             self.old self.new result.items }
     {
         let alloc = *self.open_ids.allocator();
@@ -99,7 +97,7 @@ impl<'a> Flow<'a> {
 
     /// The range of the characters of a string.
     pub(crate) fn text(&mut self, characters: &[u8]) -> Vec<Interval>
-        ensures { Goes (give (text_range characters.now ∷ [])) self.old self.new result.items }
+        ensures { FlowGoes (give (text_range characters.now ∷ [])) self.old self.new result.items }
     {
         let alloc = *self.open_ids.allocator();
         match Vec::from_slice(alloc, &[text_range(characters)]) {

@@ -7,10 +7,8 @@ ghost use Rattle.checker_expressions.specs.Walk.{held_in, hull_known, limited};
 
 use checker_state::Known;
 use checker_trail::State;
-use domain::Domain;
-use domain::hull::Hull;
-use domain::interval::Interval;
-use typed_tree::tree::Scalar;
+use domain::{Domain, Hull, Interval};
+use typed_tree::Scalar;
 
 /// A value with its number, or its members, in a range.
 pub(crate) fn held_in(holds: Scalar, range: Interval) -> Known

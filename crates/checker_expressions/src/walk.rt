@@ -8,7 +8,7 @@ ghost use Rattle.checker_calls.specs.Actuals.{unknown_index};
 ghost use Rattle.checker_calls.specs.View.{said_actual};
 ghost use Rattle.checker_state.specs.Stores.{entire};
 ghost use Rattle.checker_state.specs.View.{said_form, said_index, said_reach};
-ghost use Rattle.checker_expressions.specs.View.{Goes, entries_of_link};
+ghost use Rattle.checker_expressions.specs.View.{FlowGoes, entries_of_link};
 ghost use Rattle.checker_expressions.specs.Visits.{all_counted};
 ghost use Rattle.checker_expressions.specs.Walk.{access_walk, actuals_walk, behind_next, behind_steps, call_walk};
 ghost use Rattle.checker_expressions.specs.Walk.{begin_at_element, deeper};
@@ -20,26 +20,22 @@ ghost use Rattle.checker_expressions.specs.Walk.{passed_piece_of, piece_of, reac
 ghost use Rattle.checker_expressions.specs.Walk.{value_walk, variable_walk, whole_walk, width_walk, written_walk};
 ghost use Rattle.checker_rows.specs.Rows.{is_ordinal_variable};
 
-use crate::count::Count;
-use crate::flow::Flow;
 use crate::gathering::Gathering;
-use checker_calls::actuals::Actual;
+use crate::{Count, Flow};
+use checker_calls::Actual;
 use checker_rows::Rows;
 use checker_state::{Bound, Index, Indexes, Known, Reach, bound_form};
-use domain::hull::Hull;
-use domain::interval::Interval;
-use domain::versions::{Extension, Version};
-use typed_tree::calls::{actuals_hold_call, hold_call};
-use typed_tree::tree::{
+use domain::{Extension, Hull, Interval, Version};
+use typed_tree::{
     Access, Base, Call, Designator, Expr, Link, Passed, PathStep, RangeTest, Scalar, Selector,
-    Whole, Width, WriteParameter, Written,
+    Whole, Width, WriteParameter, Written, actuals_hold_call, hold_call,
 };
 
 impl<'a> Flow<'a> {
     /// What is known of an expression's value (ISO 7185:1990, 6.7).
     #[cycle(expression)]
     pub fn expression<C: Count>(&mut self, expression: &Expr, visits: &mut C) -> Known
-        ensures goes { Goes (value_walk expression.now) self.old self.new result }
+        ensures goes { FlowGoes (value_walk expression.now) self.old self.new result }
         ensures counts { visits.new ≡ all_counted C.counted (entries_of_expression expression.now) visits.old }
     {
         match expression {
@@ -96,7 +92,7 @@ impl<'a> Flow<'a> {
     /// Operators with their right operands, from left to right, behind what is known of the first one.
     #[cycle(expression)]
     fn in_turn<C: Count>(&mut self, links: &[Link], left: Known, visits: &mut C) -> Known
-        ensures goes { Goes (in_turn (map link_walk links.now) left) self.old self.new result }
+        ensures goes { FlowGoes (in_turn (map link_walk links.now) left) self.old self.new result }
         ensures counts { visits.new ≡ all_counted C.counted (joined (map entries_of_link links.now)) visits.old }
     {
         let mut known = left;
@@ -109,7 +105,7 @@ impl<'a> Flow<'a> {
     /// An operator and its right operand, by what is known to its left.
     #[cycle(expression)]
     fn link<C: Count>(&mut self, link: &Link, left: Known, visits: &mut C) -> Known
-        ensures goes { Goes (link_walk link.now left) self.old self.new result }
+        ensures goes { FlowGoes (link_walk link.now left) self.old self.new result }
         ensures counts { visits.new ≡ all_counted C.counted (entries_of_link link.now) visits.old }
     {
         visits.tick(link.number);
@@ -127,7 +123,7 @@ impl<'a> Flow<'a> {
         defined: u32,
         visits: &mut C,
     ) -> Known
-        ensures goes { Goes (variable_walk holds access.now (index_pieces indexes.now) defined)
+        ensures goes { FlowGoes (variable_walk holds access.now (index_pieces indexes.now) defined)
             self.old self.new result }
         ensures counts { visits.new ≡ all_counted C.counted (access_entries access.now (index_entries indexes.now))
             visits.old }
@@ -144,7 +140,7 @@ impl<'a> Flow<'a> {
         members: &[Expr],
         visits: &mut C,
     ) -> Hull
-        ensures goes { Goes (members_walk (index_pieces members.now) (none_gathered designators.now))
+        ensures goes { FlowGoes (members_walk (index_pieces members.now) (none_gathered designators.now))
             self.old self.new result }
         ensures counts { visits.new ≡ all_counted C.counted (joined (index_entries members.now)) visits.old }
     {
@@ -165,7 +161,7 @@ impl<'a> Flow<'a> {
         indexes: &[Expr],
         visits: &mut C,
     ) -> Known
-        ensures goes { Goes (related_walk number right.now (index_pieces indexes.now)) self.old self.new result }
+        ensures goes { FlowGoes (related_walk number right.now (index_pieces indexes.now)) self.old self.new result }
         ensures counts { visits.new
             ≡ all_counted C.counted (number ∷ whole_entries right.now (index_entries indexes.now)) visits.old }
     {
@@ -183,7 +179,7 @@ impl<'a> Flow<'a> {
         indexes: &[Expr],
         visits: &mut C,
     ) -> Vec<Interval>
-        ensures goes { Goes (whole_walk value.now (index_pieces indexes.now)) self.old self.new result.items }
+        ensures goes { FlowGoes (whole_walk value.now (index_pieces indexes.now)) self.old self.new result.items }
         ensures counts { visits.new ≡ all_counted C.counted (whole_entries value.now (index_entries indexes.now))
             visits.old }
     {
@@ -207,7 +203,8 @@ impl<'a> Flow<'a> {
     /// A variable access with its index expressions (6.5.1): what it reaches of the rows under it.
     #[cycle(expression)]
     pub fn access<C: Count>(&mut self, access: &Access, indexes: &[Expr], visits: &mut C) -> Reach
-        ensures goes { Goes (access_walk access.now (index_pieces indexes.now)) self.old self.new (said_reach result) }
+        ensures goes { FlowGoes (access_walk access.now (index_pieces indexes.now)) self.old self.new
+            (said_reach result) }
         ensures counts { visits.new ≡ all_counted C.counted (access_entries access.now (index_entries indexes.now))
             visits.old }
     {
@@ -225,7 +222,7 @@ impl<'a> Flow<'a> {
         begun: Reach,
         visits: &mut C,
     ) -> Reach
-        ensures goes { Goes (indexes_walk selectors.now (index_pieces indexes.now) (said_reach begun))
+        ensures goes { FlowGoes (indexes_walk selectors.now (index_pieces indexes.now) (said_reach begun))
             self.old self.new (said_reach result) }
         ensures counts { visits.new ≡ all_counted C.counted (joined (index_entries indexes.now)) visits.old }
     {
@@ -246,7 +243,7 @@ impl<'a> Flow<'a> {
     /// The value of a function that is called (6.7.3).
     #[cycle(expression)]
     fn function<C: Count>(&mut self, call: Call, actuals: &[Passed], visits: &mut C) -> Known
-        ensures goes { Goes (function_walk call (map passed_piece_of actuals.now)) self.old self.new result }
+        ensures goes { FlowGoes (function_walk call (map passed_piece_of actuals.now)) self.old self.new result }
         ensures counts { visits.new ≡ all_counted C.counted (call_entries call (map entries_of_passed actuals.now))
             visits.old }
     {
@@ -257,7 +254,7 @@ impl<'a> Flow<'a> {
     /// A call of a routine, with its actual parameters (6.7.3, 6.8.2.3).
     #[cycle(expression)]
     pub fn call<C: Count>(&mut self, call: Call, actuals: &[Passed], visits: &mut C)
-        ensures goes { Goes (call_walk call (map passed_piece_of actuals.now)) self.old self.new tt }
+        ensures goes { FlowGoes (call_walk call (map passed_piece_of actuals.now)) self.old self.new tt }
         ensures counts { visits.new ≡ all_counted C.counted (call_entries call (map entries_of_passed actuals.now))
             visits.old }
     {
@@ -273,7 +270,7 @@ impl<'a> Flow<'a> {
         actuals: &'b [Passed],
         visits: &mut C,
     ) -> Vec<Actual<'b>>
-        ensures goes { Goes (actuals_walk (map passed_piece_of actuals.now))
+        ensures goes { FlowGoes (actuals_walk (map passed_piece_of actuals.now))
             self.old self.new (map said_actual result.items) }
         ensures counts { visits.new ≡ all_counted C.counted (joined (map entries_of_passed actuals.now)) visits.old }
     {
@@ -287,7 +284,7 @@ impl<'a> Flow<'a> {
 
     /// Puts an actual parameter behind others.
     fn pass<'b>(&mut self, actual: Actual<'b>, passed: &mut Vec<Actual<'b>>)
-        ensures { Goes (give (map said_actual passed.old.items ++ said_actual actual.entry ∷ [])) self.old self.new
+        ensures { FlowGoes (give (map said_actual passed.old.items ++ said_actual actual.entry ∷ [])) self.old self.new
             (map said_actual passed.new.items) }
     {
         if let Err(error) = passed.push(actual) {
@@ -298,7 +295,7 @@ impl<'a> Flow<'a> {
     /// An actual parameter (6.6.3): a value is tested at once.
     #[cycle(expression)]
     fn actual<'b, C: Count>(&mut self, actual: &'b Passed, visits: &mut C) -> Actual<'b>
-        ensures goes { Goes (passed_piece_of actual.now).walk self.old self.new (said_actual result) }
+        ensures goes { FlowGoes (passed_piece_of actual.now).walk self.old self.new (said_actual result) }
         ensures counts { visits.new ≡ all_counted C.counted (entries_of_passed actual.now) visits.old }
     {
         match actual {
@@ -326,7 +323,7 @@ impl<'a> Flow<'a> {
 
     /// A value that is written, and then its width.
     pub fn parameter<C: Count>(&mut self, parameter: &WriteParameter, visits: &mut C)
-        ensures goes { Goes (parameter_walk parameter.now) self.old self.new tt }
+        ensures goes { FlowGoes (parameter_walk parameter.now) self.old self.new tt }
         ensures counts { visits.new ≡ all_counted C.counted (entries_of_parameter parameter.now) visits.old }
     {
         self.written(&parameter.value, visits);
@@ -335,7 +332,7 @@ impl<'a> Flow<'a> {
 
     /// A value that is written.
     fn written<C: Count>(&mut self, value: &Written, visits: &mut C)
-        ensures goes { Goes (written_walk value.now) self.old self.new tt }
+        ensures goes { FlowGoes (written_walk value.now) self.old self.new tt }
         ensures counts { visits.new ≡ all_counted C.counted (entries_of_written value.now) visits.old }
     {
         match value {
@@ -350,7 +347,7 @@ impl<'a> Flow<'a> {
 
     /// The width of a value that is written.
     fn width<C: Count>(&mut self, width: &Option<Width>, visits: &mut C)
-        ensures goes { Goes (width_walk width.now) self.old self.new tt }
+        ensures goes { FlowGoes (width_walk width.now) self.old self.new tt }
         ensures counts { visits.new ≡ all_counted C.counted (entries_of_width width.now) visits.old }
     {
         if let Some(width) = width {

@@ -6,11 +6,11 @@ use Rattle.std.proofs.lemmas.List.{map-append, take_more}
 use Rattle.std.proofs.lemmas.List.Elements.{filter-append}
 use Rattle.checker_state.specs.declared.held.Held.{Held as KeptHeld}
 use Rattle.checker_known.specs.declared.told.Arrival.{Arrival}
-use Rattle.checker_known.specs.declared.known.Row.{Row}
+use Rattle.checker_known.specs.declared.knowledge.Row.{Row}
 use Rattle.checker_known.specs.declared.change.Change.{Change}
 use Rattle.checker_known.specs.Told.{arrival_at, joined_at, row_changed, rows_changed, said_at}
 use Rattle.checker_state.specs.State.{Facts, Held, RowState, Table}
-use Rattle.checker_known.specs.Known.{Core}
+use Rattle.checker_known.specs.Knowledge.{Core}
 use Rattle.checker_state.specs.View.{said_held}
 use Rattle.checker_known.specs.View.{said_row}
 use Rattle.checker_known.proofs.HeldLists.{no_held, said_all}

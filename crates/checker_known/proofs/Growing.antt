@@ -8,7 +8,7 @@ use Rattle.checker_rows.specs.Rows.{Row, rows_of}
 use Rattle.checker_state.specs.declared.growing.Growing.{Growing}
 use Rattle.checker_state.specs.Growths.{growing_outside, row_outside}
 use Rattle.checker_state.specs.State.{RowState}
-use Rattle.checker_known.specs.declared.known.Row.{Row as KeptRow}
+use Rattle.checker_known.specs.declared.knowledge.Row.{Row as KeptRow}
 use Rattle.checker_known.specs.Knots.{counts, recounted}
 use Rattle.checker_known.specs.View.{AreGrowing, depth_of, growing_at, said_row, type_rows, type_state}
 use Rattle.checker_known.proofs.Tangles.{count-few, recounted-length, recounted-row}

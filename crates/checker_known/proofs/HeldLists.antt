@@ -13,7 +13,7 @@ use Rattle.checker_state.specs.declared.bound.Bound.{Bound as KeptBound}
 use Rattle.checker_state.specs.declared.held.Held.{Held as KeptHeld}
 use Rattle.checker_state.specs.declared.held.Held.TheVariants as kept
 use Rattle.checker_state.specs.State.{Held, held_order, put, with_more, with_one}
-use Rattle.checker_known.specs.Known.{changed_at, kept_by}
+use Rattle.checker_known.specs.Knowledge.{changed_at, kept_by}
 use Rattle.checker_known.specs.Resting.{AreRising, IsAt}
 use Rattle.checker_state.specs.View.{said_held}
 

@@ -13,9 +13,9 @@ use Rattle.std.proofs.lemmas.List.{map-append}
 use Rattle.checker_state.specs.declared.held.Held.{Held as KeptHeld}
 use Rattle.checker_state.specs.State.{Held, held_order, put, with_more, with_one}
 use Rattle.checker_state.specs.View.{said_held}
-use Rattle.checker_known.specs.Told.{Leaves}
+use Rattle.checker_known.specs.Told.{ToldLeaves}
 use Rattle.checker_known.specs.Order.{disorder_of}
-use Rattle.checker_known.specs.Known.{kept_by}
+use Rattle.checker_known.specs.Knowledge.{kept_by}
 use Rattle.checker_known.proofs.HeldLists.{more-append, no_held, said_all}
 use Rattle.checker_known.proofs.InOrder.{held-total, in-order, there}
 
@@ -181,8 +181,8 @@ some-more test first one held =
     ap (λ (some : List Held). with_more some held) (filter-append test first (one ∷ []))
     ∙ more-append (filter test first) (filter test (one ∷ [])) held
 
-module _ (left there stay : List Held) (one : Held) (so_far : Leaves left there stay) where
-  leaves-more : Leaves (left ++ one ∷ []) (there ++ one ∷ []) stay
+module _ (left there stay : List Held) (one : Held) (so_far : ToldLeaves left there stay) where
+  leaves-more : ToldLeaves (left ++ one ∷ []) (there ++ one ∷ []) stay
   leaves-more test =
       some-more test left one stay ∙ ap (with_more (filter test (one ∷ []))) (so_far test) ∙ sym (some-more test there one stay)
 
@@ -190,7 +190,7 @@ module _ (left there stay : List Held) (one : Held) (so_far : Leaves left there 
   same-held test true held is = is
   same-held test false held is = refl
 
-  leaves-out : InOrder stay → Among one stay → Leaves left (there ++ one ∷ []) stay
+  leaves-out : InOrder stay → Among one stay → ToldLeaves left (there ++ one ∷ []) stay
   leaves-out ordered has test =
       so_far test
       ∙ sym (same-held test (test one) (with_more (filter test there) stay)
@@ -210,34 +210,34 @@ module _ (stay : List Held) (held : List KeptHeld) (i : ℕ) (inside : i < lengt
   is : one ≡ get_or held i one
   is = get_or_default held i no_held one inside
 
-  more-here : (found new : List KeptHeld) → Leaves (said_all found) (said_all (take i held)) stay → new ≡ found ++ one ∷ []
-      → Leaves (said_all new) (said_all (take (i + 1) held)) stay
+  more-here : (found new : List KeptHeld) → ToldLeaves (said_all found) (said_all (take i held)) stay → new ≡ found ++ one ∷ []
+      → ToldLeaves (said_all new) (said_all (take (i + 1) held)) stay
   more-here found new so_far new_is =
-      subst (λ (l : List Held). Leaves l (said_all (take (i + 1) held)) stay)
+      subst (λ (l : List Held). ToldLeaves l (said_all (take (i + 1) held)) stay)
       (sym (ap said_all new_is ∙ map-append said_held found (one ∷ [])))
-      (subst (λ (t : List Held). Leaves (said_all found ++ said_held one ∷ []) t stay) (sym (said-more held i one inside is))
+      (subst (λ (t : List Held). ToldLeaves (said_all found ++ said_held one ∷ []) t stay) (sym (said-more held i one inside is))
       (leaves-more (said_all found) (said_all (take i held)) stay (said_held one) so_far))
 
-  same-here : (found : List KeptHeld) → Leaves (said_all found) (said_all (take i held)) stay → InOrder stay → Among (said_held one) stay
-      → Leaves (said_all found) (said_all (take (i + 1) held)) stay
+  same-here : (found : List KeptHeld) → ToldLeaves (said_all found) (said_all (take i held)) stay → InOrder stay → Among (said_held one) stay
+      → ToldLeaves (said_all found) (said_all (take (i + 1) held)) stay
   same-here found so_far ordered has =
-      subst (λ (t : List Held). Leaves (said_all found) t stay) (sym (said-more held i one inside is))
+      subst (λ (t : List Held). ToldLeaves (said_all found) t stay) (sym (said-more held i one inside is))
       (leaves-out (said_all found) (said_all (take i held)) stay (said_held one) so_far ordered has)
 
 module _ (stay : List Held) (held there : List KeptHeld) (i : ℕ) (same : there ≡ held) (inside : i < length there) (found : List KeptHeld)
-    (so_far : Leaves (said_all found) (said_all (take i held)) stay) where
-  here : Leaves (said_all found) (said_all (take i there)) stay
-  here = subst (λ (h : List KeptHeld). Leaves (said_all found) (said_all (take i h)) stay) (sym same) so_far
+    (so_far : ToldLeaves (said_all found) (said_all (take i held)) stay) where
+  here : ToldLeaves (said_all found) (said_all (take i there)) stay
+  here = subst (λ (h : List KeptHeld). ToldLeaves (said_all found) (said_all (take i h)) stay) (sym same) so_far
 
   -- one more is left, or left out since it stays
-  pub others-more : (new : List KeptHeld) → new ≡ found ++ get_or there i no_held ∷ [] → Leaves (said_all new) (said_all (take (i + 1) held)) stay
+  pub others-more : (new : List KeptHeld) → new ≡ found ++ get_or there i no_held ∷ [] → ToldLeaves (said_all new) (said_all (take (i + 1) held)) stay
   others-more new new_is =
-      subst (λ (h : List KeptHeld). Leaves (said_all new) (said_all (take (i + 1) h)) stay) same (more-here stay there i inside found new here new_is)
+      subst (λ (h : List KeptHeld). ToldLeaves (said_all new) (said_all (take (i + 1) h)) stay) same (more-here stay there i inside found new here new_is)
 
   pub others-same : (none : Held) (kept : List Bool) (asked : List KeptHeld) → stay ≡ kept_by kept (said_all asked) → disorder_of (said_all asked) ≡ 0
-      → Contains stay (said_held (get_or there i no_held)) → Leaves (said_all found) (said_all (take (i + 1) held)) stay
+      → Contains stay (said_held (get_or there i no_held)) → ToldLeaves (said_all found) (said_all (take (i + 1) held)) stay
   others-same none kept asked stay_is ordered has =
-      subst (λ (h : List KeptHeld). Leaves (said_all found) (said_all (take (i + 1) h)) stay) same
+      subst (λ (h : List KeptHeld). ToldLeaves (said_all found) (said_all (take (i + 1) h)) stay) same
       (same-here stay there i inside found here
       (subst InOrder (sym stay_is) (order-kept kept (said_all asked) (in-order (said_all asked) none ordered)))
       (contains-among (said_held (get_or there i no_held)) stay has))

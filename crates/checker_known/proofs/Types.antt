@@ -9,7 +9,7 @@ use Rattle.domain.specs.Interval.{Interval}
 use Rattle.checker_rows.specs.Leaves.{scalar}
 use Rattle.checker_rows.specs.Limits.{row_limits}
 use Rattle.checker_rows.specs.Rows.{Row, rows_of}
-use Rattle.checker_known.specs.declared.known.Row.{Row as KeptRow}
+use Rattle.checker_known.specs.declared.knowledge.Row.{Row as KeptRow}
 use Rattle.checker_state.specs.State.{RowState}
 use Rattle.checker_known.specs.View.{said_row, type_rows, type_state}
 

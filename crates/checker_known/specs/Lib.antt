@@ -5,5 +5,5 @@ pub mod Halves
 pub mod Knots
 pub mod Longer
 pub mod Resting
-pub mod Known
+pub mod Knowledge
 pub mod Told

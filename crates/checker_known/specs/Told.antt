@@ -6,14 +6,14 @@ use Rattle.domain.specs.Interval.{joined, vacant}
 use Rattle.checker_state.specs.declared.held.Held.{Held as KeptHeld}
 use Rattle.checker_known.specs.declared.told.Arrival.{Arrival}
 use Rattle.checker_known.specs.declared.told.Told.{Told}
-use Rattle.checker_known.specs.declared.known.Row.{Row}
+use Rattle.checker_known.specs.declared.knowledge.Row.{Row}
 use Rattle.checker_known.specs.declared.change.Change.{Change}
 use Rattle.checker_known.specs.declared.change.Change.TheVariants as change
 use Rattle.checker_state.specs.Growths.{joined_growth}
 use Rattle.checker_state.specs.State.{Facts, Held, Ordered, RowState, State, Stretched, Table, gives, has_number}
 use Rattle.checker_state.specs.State.{have_values, with_more}
 use Rattle.checker_state.specs.State.{is_whole, row_at}
-use Rattle.checker_known.specs.Known.{Core, viewed}
+use Rattle.checker_known.specs.Knowledge.{Core, viewed}
 use Rattle.checker_state.specs.View.{said_held}
 use Rattle.checker_known.specs.View.{said_row}
 
@@ -70,13 +70,14 @@ has_its_values table state (Ordered root other number) = has_number table state 
 -- ---- what is told
 
 -- some of what is held there are left out, but nothing else is held behind, whichever of them are held
-abbrev pub Leaves : (left there stay : List Held) → Type 0
-Leaves left there stay = (test : Held → Bool) → with_more (filter test left) stay ≡ with_more (filter test there) stay
+abbrev pub ToldLeaves : (left there stay : List Held) → Type 0
+ToldLeaves left there stay = (test : Held → Bool) → with_more (filter test left) stay ≡ with_more (filter test there)
+    stay
 
 -- what the end of a way tells of what is held elsewhere, and of some rows
 pub record AreTold (table : Table) (there : Core) (asked : List KeptHeld) (rows : List ℕ) (told : Told) : Type 0 where
   pub kept_are : told.kept.items ≡ map (gives table (viewed there)) (map said_held asked)
   pub held_are :
-      Leaves (map said_held told.held.items) (map said_held there.held)
+      ToldLeaves (map said_held told.held.items) (map said_held there.held)
       (filter (gives table (viewed there)) (map said_held asked))
   pub rows_are : told.rows.items ≡ map (arrival_at table there) rows

@@ -6,7 +6,7 @@ use Rattle.checker_rows.specs.Limits.{limits_or_integer}
 use Rattle.checker_rows.specs.Rows.{Row, rows_of}
 use Rattle.checker_state.specs.State.{RowState}
 use Rattle.checker_state.specs.declared.growing.Growing.{Growing}
-use Rattle.checker_known.specs.declared.known.Row.{Row as KeptRow}
+use Rattle.checker_known.specs.declared.knowledge.Row.{Row as KeptRow}
 use Rattle.checker_known.specs.Knots.{counts}
 
 -- what is known of a row

@@ -2,11 +2,11 @@ ghost use Rattle.std.specs.Prelude.{◌≡◌, ◌+◌, ◌<◌, ◌&&◌, IfOk,
 ghost use Rattle.checker_state.specs.State.{le};
 ghost use Rattle.checker_state.specs.Stores.{is_at, longer, longer_by, longer_span};
 ghost use Rattle.checker_known.specs.Longer.{AreLonger};
-ghost use Rattle.checker_known.specs.Known.{core, viewed};
+ghost use Rattle.checker_known.specs.Knowledge.{core, viewed};
 ghost use Rattle.checker_state.specs.View.{said_bound, said_held, said_more, said_point, said_span, said_span_form};
 ghost use Rattle.checker_state.specs.View.{said_spans, said_stretched};
 
-use crate::known::Known;
+use crate::Knowledge;
 use checker_state::{Bound, Held, Point, Span, Stretch};
 use std::alloc::{AllocError, Global};
 
@@ -19,7 +19,7 @@ pub struct Beside {
     pub longer: Vec<Held>,
 }
 
-impl Known {
+impl Knowledge {
     /// What first indexes of a row that become defined make longer.
     pub fn beside(&self, alloc: Global, row: usize, point: Point) -> Result<Beside, AllocError>
         ensures { IfOk result (λ found. AreLonger (viewed (core self.now)) row (said_point point)

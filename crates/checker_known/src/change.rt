@@ -1,7 +1,7 @@
 ghost use Rattle.std.specs.Prelude.{◌≡◌};
-ghost use Rattle.checker_known.specs.Known.{inverse};
+ghost use Rattle.checker_known.specs.Knowledge.{inverse};
 
-use crate::known::Row;
+use crate::Row;
 use checker_state::Held;
 
 /// A change of what is known, which can be taken back.

@@ -7,16 +7,15 @@ ghost use Rattle.checker_state.specs.State.{le, lies_below};
 ghost use Rattle.checker_state.specs.State.{says_at_most, table_of};
 ghost use Rattle.checker_state.specs.View.{AreEnds, said_bound, said_claim, said_held, said_order, said_span};
 ghost use Rattle.checker_state.specs.View.{said_spans, said_stretch, said_term};
-ghost use Rattle.checker_known.specs.Known.{core, viewed};
+ghost use Rattle.checker_known.specs.Knowledge.{core, viewed};
 ghost use Rattle.checker_known.specs.Told.{has_its_values};
 
-use crate::known::Known;
-use crate::order::Group;
+use crate::{Group, Knowledge};
 use checker_rows::Rows;
 use checker_state::{Bound, Claim, Ends, Held, Order, Span, Stretch, Term};
 use domain::Domain;
 
-impl Known {
+impl Knowledge {
     /// Whether a bound is known to be at most another: by itself, by ranges, or by an order.
     pub fn le(&self, left: Term, right: Term) -> bool
         ensures { result ≡ le (viewed (core self.now)) (said_term left) (said_term right) }

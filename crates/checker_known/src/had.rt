@@ -6,16 +6,15 @@ ghost use Rattle.checker_rows.specs.Rows.{indexes_at, rows_of};
 ghost use Rattle.checker_state.specs.State.{begins, covers, has_span, have_spans, is_covered, is_had};
 ghost use Rattle.checker_state.specs.State.{is_joined, is_spanned, joins, wanted_of};
 ghost use Rattle.checker_state.specs.View.{inner_spans, said_held, said_span, said_spans};
-ghost use Rattle.checker_known.specs.Known.{core, viewed};
+ghost use Rattle.checker_known.specs.Knowledge.{core, viewed};
 
-use crate::known::Known;
-use crate::order::Group;
+use crate::{Group, Knowledge};
 use checker_rows::Rows;
 use checker_state::{Held, Span, Stretch};
-use domain::versions::Extension;
+use domain::Extension;
 use types::OrdinalRange;
 
-impl Known {
+impl Knowledge {
     /// Whether something that is held has all of a stretch; in a version with blocks also whether one or two together
     /// have that of its first span, with any index behind it.
     pub(crate) fn is_had(&self, table: &Rows, wanted: Stretch) -> bool

@@ -2,7 +2,7 @@ ghost use Rattle.std.specs.Prelude.{◌≡◌, ◌≤◌, length, map};
 ghost use Rattle.checker_state.specs.View.{said_held};
 ghost use Rattle.checker_known.specs.Halves.{Falls, IsEdge, first_of, last_of, passes, spans_of};
 
-use crate::order::Group;
+use crate::Group;
 use checker_state::Held;
 
 /// A test that those pass of what is held that stand first.

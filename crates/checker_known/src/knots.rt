@@ -3,11 +3,9 @@ ghost use Rattle.std.specs.Bool.{OnTrue};
 ghost use Rattle.checker_state.specs.View.{said_held, said_point, said_span, said_spans};
 ghost use Rattle.checker_known.specs.Knots.{IsLoose, goes_on, is_plain, knot, knot_at, lowered, raised, recounted};
 ghost use Rattle.checker_known.specs.Longer.{AreNear};
-ghost use Rattle.checker_known.specs.Known.{core, viewed};
+ghost use Rattle.checker_known.specs.Knowledge.{core, viewed};
 
-use crate::halves::{Test, edge};
-use crate::known::Known;
-use crate::order::Group;
+use crate::{Group, Knowledge, Test, edge};
 use checker_state::{Held, Point, Span, Stretch};
 
 /// The rows in which knots went, or came, at a place and the next.
@@ -98,7 +96,7 @@ fn raise(knots: &mut Vec<usize>, row: Option<usize>)
     }
 }
 
-impl Known {
+impl Knowledge {
     /// The places between which what first indexes of a row make longer stands.
     pub(crate) fn near(&self, row: usize, point: Point) -> (usize, usize)
         ensures { AreNear (viewed (core self.now)) row (said_point point) (map said_held self.now.held.items)

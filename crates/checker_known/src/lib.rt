@@ -8,7 +8,7 @@ mod gives;
 mod had;
 mod halves;
 mod knots;
-mod known;
+mod knowledge;
 mod order;
 mod places;
 mod resting;
@@ -17,6 +17,8 @@ mod told;
 
 pub use beside::Beside;
 pub use change::{Branch, Change};
-pub use known::{Known, Row};
+pub(crate) use halves::{Test, edge};
+pub use knowledge::{Knowledge, Row};
+pub(crate) use order::{Group, wrong_around, wrong_at};
 pub use resting::Resting;
 pub use told::{Arrival, Asked, Told};

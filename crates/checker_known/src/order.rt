@@ -2,10 +2,9 @@ ghost use Rattle.std.specs.Prelude.{◌≡◌, ◌++◌, drop, map, take};
 ghost use Rattle.checker_state.specs.State.{with_one};
 ghost use Rattle.checker_state.specs.View.{said_held};
 ghost use Rattle.checker_known.specs.Order.{AreBetween, AreOf, comes_before, stands, wrong_around, wrong_at};
-ghost use Rattle.checker_known.specs.Known.{IsPlace};
+ghost use Rattle.checker_known.specs.Knowledge.{IsPlace};
 
-use crate::halves::{Test, edge};
-use crate::known::Known;
+use crate::{Knowledge, Test, edge};
 use checker_state::Held;
 use std::cmp::Ordering;
 
@@ -45,7 +44,7 @@ impl Group {
     }
 }
 
-impl Known {
+impl Knowledge {
     /// Between which places a group stands; all of them, where what is held doesn't stand in its order.
     pub(crate) fn places(&self, group: Group) -> (usize, usize)
         ensures between { AreBetween group (map said_held self.now.held.items) result.0 result.1 }

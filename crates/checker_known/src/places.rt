@@ -1,16 +1,15 @@
 ghost use Rattle.std.specs.Prelude.{◌≡◌, IfOk, IfSome, map};
 ghost use Rattle.checker_state.specs.View.{said_held};
-ghost use Rattle.checker_known.specs.Known.{AllGrew, core};
+ghost use Rattle.checker_known.specs.Knowledge.{AllGrew, core};
 ghost use Rattle.checker_known.specs.Resting.{AreChanging, AreFound, HasAllAt, HaveAll, IsFound, listed};
 
-use crate::halves::{Test, edge};
-use crate::known::Known;
 use crate::resting::root_of;
+use crate::{Knowledge, Test, edge};
 use checker_state::{Held, Rebinding};
 use std::alloc::{AllocError, Global};
 use std::cmp::Ordering;
 
-impl Known {
+impl Knowledge {
     /// Where what a rebinding may change stands, each place behind the one before. `None`: it may stand anywhere.
     ///
     /// # Errors

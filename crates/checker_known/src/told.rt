@@ -4,8 +4,7 @@ ghost use Rattle.checker_state.specs.State.{gives, table_of};
 ghost use Rattle.checker_state.specs.View.{said_held};
 ghost use Rattle.checker_known.specs.Order.{disorder_of};
 
-use crate::change::{Branch, Change};
-use crate::known::{Known, Row};
+use crate::{Branch, Change, Knowledge, Row};
 use checker_rows::Rows;
 use checker_state::{Held, joined_growth};
 use domain::Domain;
@@ -41,7 +40,7 @@ pub struct Asked {
 }
 
 impl Asked {
-    ghost use Rattle.checker_known.specs.Known.{kept_by};
+    ghost use Rattle.checker_known.specs.Knowledge.{kept_by};
 
     // Whether one is among those that stay, at a place, and these stand in their order.
     fn stays(&self, kept: &[bool], one: &Held, place: usize) -> bool
@@ -56,10 +55,10 @@ impl Asked {
     }
 }
 
-impl Known {
-    ghost use Rattle.checker_known.specs.Told.{AreTold, Leaves, arrival_at, joined_at, row_changed, rows_changed};
+impl Knowledge {
+    ghost use Rattle.checker_known.specs.Told.{AreTold, ToldLeaves, arrival_at, joined_at, row_changed, rows_changed};
     ghost use Rattle.checker_known.specs.Told.{said_at};
-    ghost use Rattle.checker_known.specs.Known.{core, kept_by, viewed};
+    ghost use Rattle.checker_known.specs.Knowledge.{core, kept_by, viewed};
     ghost use Rattle.checker_known.specs.View.{said_row};
 
     /// What is held, to be asked elsewhere.
@@ -119,7 +118,7 @@ impl Known {
 
     // What is held here, without what stays elsewhere, where that stands in its order.
     fn others(&self, alloc: Global, asked: &Asked, kept: &[bool]) -> Result<Vec<Held>, AllocError>
-        ensures { IfOk result (λ found. Leaves (map said_held found.items) (map said_held self.now.held.items)
+        ensures { IfOk result (λ found. ToldLeaves (map said_held found.items) (map said_held self.now.held.items)
             (kept_by kept.now (map said_held asked.now.held.items))) }
     {
         let mut found = Vec::new(alloc);

@@ -7,7 +7,7 @@ use Rattle.typed_tree.specs.declared.tree.Tree.{Tree}
 use Rattle.domain.specs.Facts.{Fact, Range, Defined, Order, Grows}
 use Rattle.domain.specs.Growths.{HasPair, is_within, next}
 use Rattle.domain.specs.declared.growth.Growth.{Growth}
-use Rattle.meaning.specs.declared.store.Value.{Value}
+use Rattle.meaning.specs.declared.value.Value.{Value}
 use Rattle.meaning.specs.Store.{Environment, Store, inside_for}
 use Rattle.checker_rows.specs.Rows.{Parts, is_ordinal_variable}
 use Rattle.checker_state.specs.declared.growing.Growing.{Growing}

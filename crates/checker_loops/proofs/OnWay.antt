@@ -6,7 +6,7 @@ use Rattle.typed_tree.specs.declared.tree.Direction.{Direction}
 use Rattle.typed_tree.specs.declared.tree.Direction.TheVariants.{To, DownTo}
 use Rattle.domain.specs.Interval.{Interval, HasMember, at_least, at_most}
 use Rattle.domain.specs.Ranges.{at_least-has, at_most-has, sum-has, difference-has}
-use Rattle.meaning.specs.declared.store.Value.TheVariants as value
+use Rattle.meaning.specs.declared.value.Value.TheVariants as value
 use Rattle.meaning.specs.Counting.{has_values, next_value}
 use Rattle.meaning.specs.Meaning.{relates}
 use Rattle.meaning.specs.Store.{Environment, Store}

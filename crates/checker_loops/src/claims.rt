@@ -15,8 +15,8 @@ use certificate::Fact;
 use checker_rows::{Rows, Span};
 use checker_state::{Bound, Claim, Held, Order, Stretch};
 use checker_trail::{State, all_of_row};
+use domain::Interval;
 use domain::facts::{self, Path, Spans};
-use domain::interval::Interval;
 
 /// What a certificate claims is known from here on.
 pub fn claim_facts(state: &mut State, facts: &[Fact])

@@ -7,7 +7,7 @@ ghost use Rattle.checker_loops.specs.Growths.{growths_begun, has_turned};
 ghost use Rattle.checker_loops.specs.Loops.{touched};
 ghost use Rattle.checker_loops.specs.View.{claims_of_round, head_round, loop_of_round, said_turns};
 
-use crate::rounds::Round;
+use crate::Round;
 use certificate::Fact;
 use checker_rows::Rows;
 use checker_state::Growing;

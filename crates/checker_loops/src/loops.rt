@@ -4,11 +4,10 @@ ghost use Rattle.checker_loops.specs.Loops.{all_claims, claims_at, controls_insi
 ghost use Rattle.checker_loops.specs.View.{AreFound, all_loop_aliases, claims_found};
 ghost use Rattle.checker_loops.specs.View.{loop_aliases, said_claims};
 
-use crate::listed::{Changes, Roots};
-use crate::pairs::Pairs;
+use crate::{Changes, Pairs, Roots};
 use certificate::{Certificate, Fact, LoopClaims};
 use std::alloc::{AllocError, Global};
-use typed_tree::tree::Tree;
+use typed_tree::Tree;
 
 /// What a certificate claims of a loop.
 #[derive(Drop)]

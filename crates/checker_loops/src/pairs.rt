@@ -8,7 +8,7 @@ use certificate::AliasPair;
 use std::alloc::{AllocError, Global};
 use std::collections::BTreeMap;
 use std::marker::Model;
-use typed_tree::tree::Tree;
+use typed_tree::Tree;
 
 /// Pairs of variables of a program that may share a place (ISO 7185:1990, 6.6.3.3), as they are listed.
 #[derive(Drop)]

@@ -12,13 +12,12 @@ ghost use Rattle.checker_loops.specs.Pairs.{Listed};
 ghost use Rattle.checker_loops.specs.View.{all_loop_aliases, claims_of_round, head_round, loop_of_round, own_controls};
 ghost use Rattle.checker_loops.specs.View.{said_claims};
 
-use crate::claims::{claim_facts, gives_facts};
-use crate::listed::Roots;
 use crate::loops::{Claims, aliases_at, changes_at, controls_inside, facts_at, is_for_statement};
+use crate::{Roots, claim_facts, gives_facts};
 use certificate::Fact;
 use checker_rows::{Rows, Span};
 use checker_trail::State;
-use typed_tree::tree::Tree;
+use typed_tree::Tree;
 
 /// A loop round the walk.
 #[derive(Clone, Copy)]

@@ -4,10 +4,10 @@ ghost use Rattle.checker_loops.specs.Sections.{all_block_claims, all_pairs, bloc
 ghost use Rattle.checker_loops.specs.BlockView.{AreFound, first_on, found_claims, said_claims, said_facts};
 ghost use Rattle.checker_loops.specs.BlockView.{said_section};
 
-use crate::listed::{Changes, Roots};
+use crate::{Changes, Roots};
 use certificate::{AliasPair, Certificate, Fact, Section};
 use std::alloc::{AllocError, Global};
-use typed_tree::tree::Tree;
+use typed_tree::Tree;
 
 /// What a certificate claims of a block.
 #[derive(Clone, Copy)]

@@ -11,13 +11,13 @@ ghost use Rattle.checker_loops.specs.Starts.{all_declared, block_start, is_own, 
 ghost use Rattle.checker_loops.specs.BlockView.{all_begun, begun, begun_undefined, own_roots, rows_defined};
 ghost use Rattle.checker_loops.specs.BlockView.{rows_vacant, with_root};
 
-use crate::claims::claim_facts;
+use crate::claim_facts;
 use certificate::Fact;
 use checker_rows::Span;
 use checker_trail::State;
-use domain::interval::Interval;
+use domain::Interval;
 use std::alloc::{AllocError, Global};
-use typed_tree::tree::{Tree, Variable, VariableKind};
+use typed_tree::{Tree, Variable, VariableKind};
 
 /// The root numbers of the variables that each block of a program declares, by its number, and behind them those of
 /// variables whose block isn't there. `None`: 32 bits don't number so many variables.

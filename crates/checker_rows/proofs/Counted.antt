@@ -18,8 +18,8 @@ use Rattle.types.specs.declared.form.OrdinalRange.{OrdinalRange}
 use Rattle.types.specs.declared.form.TypeForm.{TypeForm}
 use Rattle.types.specs.declared.form.TypeForm.TheVariants as kept
 use Rattle.types.specs.declared.form.TypeId.{TypeId}
-use Rattle.checker_rows.specs.declared.leaf.Way.{Way}
-use Rattle.checker_rows.specs.declared.leaf.Way.TheVariants.{Direct, Once, Twice}
+use Rattle.checker_rows.specs.declared.leaf.Descent.{Descent}
+use Rattle.checker_rows.specs.declared.leaf.Descent.TheVariants.{Direct, Once, Twice}
 use Rattle.checker_rows.specs.Leaves.{Leaf, Leafed, behind_elements, behind_field, entry_leaves, fields_leaves, form_leaves, leaf_next}
 use Rattle.checker_rows.specs.Leaves.{leafed, leaves_at, leaves_of}
 use Rattle.checker_rows.specs.Leaves.{range_at, scalar, scalar_leaves}
@@ -225,7 +225,7 @@ array_counted types id packed index element is =
 
 -- ---- the ranges of leaves
 
-ranges_behind : (way : Way) (index : Option OrdinalRange) (leaf : Leaf) → ranges_on way (behind_elements index leaf) ≡ ranges_on (way_behind way index) leaf
+ranges_behind : (way : Descent) (index : Option OrdinalRange) (leaf : Leaf) → ranges_on way (behind_elements index leaf) ≡ ranges_on (way_behind way index) leaf
 ranges_behind Direct index leaf = refl
 ranges_behind (Once None) index leaf = refl
 ranges_behind (Once (Some first)) None leaf = refl
@@ -233,23 +233,23 @@ ranges_behind (Once (Some first)) (Some second) leaf = refl
 ranges_behind (Twice first None) index leaf = refl
 ranges_behind (Twice first (Some second)) index leaf = refl
 
-ranges_of_elements : (way : Way) (index : Option OrdinalRange) (leaves : List Leaf)
+ranges_of_elements : (way : Descent) (index : Option OrdinalRange) (leaves : List Leaf)
     → map (ranges_on way) (map (behind_elements index) leaves) ≡ map (ranges_on (way_behind way index)) leaves
 ranges_of_elements way index [] = refl
 ranges_of_elements way index (leaf ∷ leaves) =
     ap (λ r. r ∷ map (ranges_on way) (map (behind_elements index) leaves)) (ranges_behind way index leaf)
     ∙ ap (λ l. ranges_on (way_behind way index) leaf ∷ l) (ranges_of_elements way index leaves)
 
-ranges_in_field : (way : Way) (position : ℕ) (leaf : Leaf) → ranges_on way (behind_field position leaf) ≡ ranges_on way leaf
+ranges_in_field : (way : Descent) (position : ℕ) (leaf : Leaf) → ranges_on way (behind_field position leaf) ≡ ranges_on way leaf
 ranges_in_field way position leaf = refl
 
-ranges_of_field : (way : Way) (position : ℕ) (leaves : List Leaf) → map (ranges_on way) (map (behind_field position) leaves) ≡ map (ranges_on way) leaves
+ranges_of_field : (way : Descent) (position : ℕ) (leaves : List Leaf) → map (ranges_on way) (map (behind_field position) leaves) ≡ map (ranges_on way) leaves
 ranges_of_field way position [] = refl
 ranges_of_field way position (leaf ∷ leaves) =
     ap (λ r. r ∷ map (ranges_on way) (map (behind_field position) leaves)) (ranges_in_field way position leaf)
     ∙ ap (λ l. ranges_on way leaf ∷ l) (ranges_of_field way position leaves)
 
-ranges_of_fields : (types : List Form) (id : TypeId) (way : Way) (position : ℕ) (fields : List FieldForm)
+ranges_of_fields : (types : List Form) (id : TypeId) (way : Descent) (position : ℕ) (fields : List FieldForm)
     → map (ranges_on way) (fields_leaves (leafed_before types id) position fields)
     ≡ flat_map (λ field. map (ranges_on way) (part_leaves types (own_type id field.type_id))) fields
 ranges_of_fields types id way position [] = refl
@@ -260,21 +260,21 @@ ranges_of_fields types id way position (field ∷ fields) =
     (ranges_of_field way position (leaves_at (leafed_before types id) field.type_id) ∙ ap (map (ranges_on way)) (part_before types id field.type_id))
     ∙ ap (λ l. map (ranges_on way) (part_leaves types (own_type id field.type_id)) ++ l) (ranges_of_fields types id way (position + 1) fields)
 
-kept_fields : (types : List Form) (id : TypeId) (way : Way) (fields : List Field)
+kept_fields : (types : List Form) (id : TypeId) (way : Descent) (fields : List Field)
     → flat_map (λ field. map (ranges_on way) (part_leaves types (own_type id field.type_id))) (map field_form fields)
     ≡ flat_map (λ field. map (ranges_on way) (part_leaves types (own_type id field.type_id))) fields
 kept_fields types id way [] = refl
 kept_fields types id way (field ∷ fields) =
     ap (λ l. map (ranges_on way) (part_leaves types (own_type id field.type_id)) ++ l) (kept_fields types id way fields)
 
-pub record_ranges : (types : List Form) (id : TypeId) (way : Way) (packed : Bool) (fields : List Field)
+pub record_ranges : (types : List Form) (id : TypeId) (way : Descent) (packed : Bool) (fields : List Field)
     → form_at types id ≡ Some (Record packed (map field_form fields))
     → map (ranges_on way) (leaves_of types id) ≡ flat_map (λ field. map (ranges_on way) (part_leaves types (own_type id field.type_id))) fields
 record_ranges types id way packed fields is =
     ap (map (ranges_on way)) (leaves_of_form types id (Record packed (map field_form fields)) is)
     ∙ ranges_of_fields types id way 0 (map field_form fields) ∙ kept_fields types id way fields
 
-pub array_ranges : (types : List Form) (id : TypeId) (way : Way) (packed : Bool) (index element : TypeId)
+pub array_ranges : (types : List Form) (id : TypeId) (way : Descent) (packed : Bool) (index element : TypeId)
     → form_at types id ≡ Some (Array packed index element)
     → map (ranges_on way) (leaves_of types id)
     ≡ map (ranges_on (way_behind way (option_and_then (range_of types) (own_type id index)))) (part_leaves types (own_type id element))
@@ -284,7 +284,7 @@ array_ranges types id way packed index element is =
     ∙ ap (λ range. map (ranges_on (way_behind way range)) (leaves_at (leafed_before types id) element)) (values_of_part types id index)
     ∙ ap (map (ranges_on (way_behind way (option_and_then (range_of types) (own_type id index))))) (part_before types id element)
 
-module _ (types : List Form) (way : Way) (id : TypeId) where
+module _ (types : List Form) (way : Descent) (id : TypeId) where
   pub none_ranges : form_at types id ≡ None → map (ranges_on way) (leaves_of types id) ≡ ranges_on way (scalar None None) ∷ []
   none_ranges is = ap (map (ranges_on way)) (leaves_of_none types id is)
 

@@ -11,8 +11,8 @@ use Rattle.types.specs.Types.{is_structured, scalar_range_of}
 use Rattle.typed_tree.specs.declared.tree.Tree.{Tree}
 use Rattle.typed_tree.specs.declared.tree.Variable.{Variable}
 use Rattle.checker_rows.specs.declared.leaf.RowRanges.{RowRanges}
-use Rattle.checker_rows.specs.declared.leaf.Way.{Way}
-use Rattle.checker_rows.specs.declared.leaf.Way.TheVariants.{Direct, Once, Twice}
+use Rattle.checker_rows.specs.declared.leaf.Descent.{Descent}
+use Rattle.checker_rows.specs.declared.leaf.Descent.TheVariants.{Direct, Once, Twice}
 use Rattle.checker_rows.specs.declared.part.Part.{Part}
 use Rattle.checker_rows.specs.declared.span.Span.{Span}
 use Rattle.checker_rows.specs.declared.rows.NamedPart.{NamedPart}
@@ -42,13 +42,13 @@ ranges_of leaf = record {
 }
 
 -- the values of the indexes on a way from a variable before those behind it
-abbrev pub indexes_on : Way → List OrdinalRange → List OrdinalRange
+abbrev pub indexes_on : Descent → List OrdinalRange → List OrdinalRange
 indexes_on Direct indexes = indexes
 indexes_on (Once index) indexes = index_before index indexes
 indexes_on (Twice first index) indexes = first ∷ index_before index indexes
 
 -- the ranges of a leaf on a way from a variable
-abbrev pub ranges_on : Way → Leaf → RowRanges
+abbrev pub ranges_on : Descent → Leaf → RowRanges
 ranges_on way leaf = ranges_of (record leaf { indexes = indexes_on way leaf.indexes })
 
 -- those of a variable's own row
@@ -61,7 +61,7 @@ variable_ranges types variable =
     if is_structured types variable.type_id then map ranges_of (leaves_of types variable.type_id) else []
 
 -- a way on to the elements of an array
-abbrev pub way_behind : Way → Option OrdinalRange → Way
+abbrev pub way_behind : Descent → Option OrdinalRange → Descent
 way_behind Direct index = Once index
 way_behind (Once None) index = Once None
 way_behind (Once (Some first)) index = Twice first index

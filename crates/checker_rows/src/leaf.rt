@@ -23,7 +23,7 @@ pub(crate) struct RowRanges {
 
 /// The way from a variable to a part of it; the values of two indexes on it are kept.
 #[derive(Clone, Copy)]
-pub(crate) enum Way {
+pub(crate) enum Descent {
     /// By fields alone.
     Direct,
     /// By one index, or by more, if the tree doesn't tell the values of the first.
@@ -32,16 +32,16 @@ pub(crate) enum Way {
     Twice(OrdinalRange, Option<OrdinalRange>),
 }
 
-impl Way {
+impl Descent {
     // On to the elements of an array.
-    fn behind(self, index: Option<OrdinalRange>) -> Way
+    fn behind(self, index: Option<OrdinalRange>) -> Descent
         ensures { result ≡ way_behind self index }
     {
         match self {
-            Way::Direct => Way::Once(index),
-            Way::Once(None) => self,
-            Way::Once(Some(first)) => Way::Twice(first, index),
-            Way::Twice(_, _) => self,
+            Descent::Direct => Descent::Once(index),
+            Descent::Once(None) => self,
+            Descent::Once(Some(first)) => Descent::Twice(first, index),
+            Descent::Twice(_, _) => self,
         }
     }
 
@@ -50,9 +50,9 @@ impl Way {
         ensures { result ≡ ranges_on self (scalar type_id values) }
     {
         let (index, inner) = match self {
-            Way::Direct => (None, None),
-            Way::Once(first) => (first, None),
-            Way::Twice(first, second) => (Some(first), second),
+            Descent::Direct => (None, None),
+            Descent::Once(first) => (first, None),
+            Descent::Twice(first, second) => (Some(first), second),
         };
         RowRanges {
             type_id,
@@ -67,7 +67,7 @@ impl Way {
 pub(crate) fn add_leaves(
     types: &TypeTable,
     part: Option<TypeId>,
-    way: Way,
+    way: Descent,
     rows: &mut Vec<RowRanges>,
 ) -> Result<(), AllocError>
     ensures { OnOk result (rows.new.items ≡ rows.old.items ++ map (ranges_on way) (part_leaves types.now part)) }

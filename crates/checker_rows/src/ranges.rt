@@ -1,8 +1,7 @@
 ghost use Rattle.std.specs.Prelude.{◌≡◌};
 ghost use Rattle.checker_rows.specs.Limits.{limits_of, limits_or_integer};
 
-use domain::Domain;
-use domain::interval::Interval;
+use domain::{Domain, Interval};
 use types::OrdinalRange;
 
 /// The values of a type, which are integers.

@@ -12,15 +12,13 @@ ghost use Rattle.checker_rows.specs.Rows.{type_at, values_at};
 ghost use Rattle.checker_rows.specs.View.{AreKept, IsAnswerOf, end_of, first_under, next_part, numbers, own_ranges};
 ghost use Rattle.checker_rows.specs.View.{part_along, part_rows, variable_part, variable_ranges};
 
-use crate::leaf::{RowRanges, Way, add_leaves, leaf_counts, own_type};
+use crate::leaf::{Descent, RowRanges, add_leaves, leaf_counts, own_type};
 use crate::part::{Part, field_part, part_count};
-use crate::ranges::limits_or_integer;
-use crate::span::Span;
-use domain::facts::{Path, Step};
-use domain::interval::Interval;
+use crate::{Span, limits_or_integer};
+use domain::{Interval, Path, Step};
 use std::alloc::{AllocError, Global};
 use std::marker::Model;
-use typed_tree::tree::{Access, Base, PathStep, Selector, Tree, Variable};
+use typed_tree::{Access, Base, PathStep, Selector, Tree, Variable};
 use types::{OrdinalRange, TypeForm, TypeId, TypeTable};
 
 /// The rows of a program by number: its variables, and behind them the leaves of those that are structured.
@@ -394,6 +392,6 @@ fn add_variable(
         return Ok(root);
     }
     let first = rows.len();
-    add_leaves(types, Some(variable.type_id), Way::Direct, rows)?;
+    add_leaves(types, Some(variable.type_id), Descent::Direct, rows)?;
     Ok(first)
 }

@@ -9,8 +9,8 @@ use Rattle.std.proofs.lemmas.Option.{none-some, same_Some}
 use Rattle.domain.specs.Interval.{Interval, vacant}
 use Rattle.types.specs.declared.form.Step.{Step}
 use Rattle.meaning.specs.Integers.{is_integer_number}
-use Rattle.meaning.specs.declared.store.Value.{Value}
-use Rattle.meaning.specs.declared.store.Value.TheVariants.{Number}
+use Rattle.meaning.specs.declared.value.Value.{Value}
+use Rattle.meaning.specs.declared.value.Value.TheVariants.{Number}
 use Rattle.meaning.specs.Store.{Environment, Store}
 use Rattle.checker_rows.specs.Rows.{Parts, first_index, no_parts}
 use Rattle.checker_state.specs.Bounds.{Bound}

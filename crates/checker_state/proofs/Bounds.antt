@@ -7,7 +7,7 @@ use Rattle.std.proofs.lemmas.Bool.{and_parts, eqb-true, or_cases}
 use Rattle.std.proofs.lemmas.Option.{cond_some}
 use Rattle.domain.specs.Interval.{Interval, HasMember, is_vacant}
 use Rattle.meaning.specs.Integers.{is_integer_number}
-use Rattle.meaning.specs.declared.store.Value.TheVariants.{Number}
+use Rattle.meaning.specs.declared.value.Value.TheVariants.{Number}
 use Rattle.meaning.specs.Store.{Environment, Store}
 use Rattle.checker_rows.specs.Rows.{Parts}
 use Rattle.checker_state.specs.Bounds.{Bound, is_at_most, is_same_variable, is_variable, moved_bound, raised_bound}

@@ -21,8 +21,8 @@ use Rattle.types.specs.declared.form.Step.{Step}
 use Rattle.types.specs.declared.form.Step.TheVariants as step
 use Rattle.types.specs.Components.{components_of}
 use Rattle.text_input.specs.Input.{Reading, Reads, Fails, Ends, is_at_end, read_eoln}
-use Rattle.meaning.specs.declared.store.Value.{Value}
-use Rattle.meaning.specs.declared.store.Value.TheVariants.{Members, Number}
+use Rattle.meaning.specs.declared.value.Value.{Value}
+use Rattle.meaning.specs.declared.value.Value.TheVariants.{Members, Number}
 use Rattle.members.specs.Members as sets
 use Rattle.members.specs.declared.sets.Operator.TheVariants as operator
 use Rattle.typed_tree.specs.Accesses.{origin_of}

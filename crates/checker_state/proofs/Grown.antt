@@ -19,8 +19,8 @@ use Rattle.domain.specs.Ranges.{between-members}
 use Rattle.domain.specs.Interval.{Interval, HasMember, IsEnd, between, common}
 use Rattle.domain.specs.contracts.interval.IntervalDomain.TheImpl.Laws as interval
 use Rattle.meaning.specs.Integers.{is_integer_number}
-use Rattle.meaning.specs.declared.store.Value.{Value}
-use Rattle.meaning.specs.declared.store.Value.TheVariants.{Members, Number}
+use Rattle.meaning.specs.declared.value.Value.{Value}
+use Rattle.meaning.specs.declared.value.Value.TheVariants.{Members, Number}
 use Rattle.meaning.specs.Store.{Environment, Store, inside_for}
 use Rattle.checker_rows.specs.Rows.{Parts}
 use Rattle.checker_state.specs.declared.growing.Growing.{Growing}

@@ -4,7 +4,7 @@ use Rattle.std.proofs.Common.{◌≡◌, ⊎_elim, ◌∙◌, sym, ap, ℕ, ℤ,
 use Rattle.std.proofs.lemmas.Bool.{cases_lt}
 use Rattle.std.proofs.lemmas.Option.{none-some}
 use Rattle.domain.specs.Interval.{HasMember, Interval}
-use Rattle.meaning.specs.declared.store.Value.{Value}
+use Rattle.meaning.specs.declared.value.Value.{Value}
 use Rattle.meaning.specs.Store.{Environment, Place, Store, stored}
 use Rattle.checker_rows.specs.Rows.{Parts}
 use Rattle.checker_state.specs.State.{State, Table, is_defined, range_of, unless_empty, with_defined, with_range, Dead, Live}

@@ -14,8 +14,8 @@ use Rattle.domain.specs.Interval as domain
 use Rattle.domain.specs.Interval.{Interval, HasMember, has_number, is_vacant, common, truth_values}
 use Rattle.domain.specs.contracts.interval.IntervalDomain.TheImpl.Laws.{leq_includes-law, meet_has_common-law}
 use Rattle.domain.specs.contracts.interval.IntervalDomain.TheImpl.Laws.{has_present-law, join_has_left-law, join_has_right-law}
-use Rattle.meaning.specs.declared.store.Value.{Value}
-use Rattle.meaning.specs.declared.store.Value.TheVariants.{Members, Number}
+use Rattle.meaning.specs.declared.value.Value.{Value}
+use Rattle.meaning.specs.declared.value.Value.TheVariants.{Members, Number}
 use Rattle.meaning.specs.Effect.{is_in}
 use Rattle.meaning.specs.Integers.{is_integer_number, is_within, truth, is_true}
 use Rattle.checker_rows.specs.Limits.{integer, limits_of}

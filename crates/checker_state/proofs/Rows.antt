@@ -9,7 +9,7 @@ use Rattle.std.proofs.lemmas.List.{get_or_past, get_or-set_other, get_or-set_sam
 use Rattle.std.proofs.lemmas.Option.{none-some}
 use Rattle.types.specs.declared.form.Step.{Step}
 use Rattle.domain.specs.Interval.{Interval}
-use Rattle.meaning.specs.declared.store.Value.{Value}
+use Rattle.meaning.specs.declared.value.Value.{Value}
 use Rattle.meaning.specs.Store.{Environment, Place, Store}
 use Rattle.checker_rows.specs.Rows.{Parts, no_parts}
 use Rattle.checker_state.specs.declared.growing.Growing.{Growing}

@@ -10,8 +10,8 @@ use Rattle.domain.specs.Hull.{hull_between, hull_of, members}
 use Rattle.domain.specs.Hulls.{difference-has_set, has_set-empty, hull_between-has_set, hull_of-has_one, intersection-has_set, union-has_set}
 use Rattle.domain.specs.Interval.{Interval, HasMember}
 use Rattle.domain.specs.Ranges.{common-has, included-has}
-use Rattle.meaning.specs.declared.store.Value.{Value}
-use Rattle.meaning.specs.declared.store.Value.TheVariants.{Members, Number}
+use Rattle.meaning.specs.declared.value.Value.{Value}
+use Rattle.meaning.specs.declared.value.Value.TheVariants.{Members, Number}
 use Rattle.meaning.specs.Store.{Environment, Store}
 use Rattle.checker_rows.specs.Limits.{limits_of}
 use Rattle.checker_rows.specs.Rows.{Parts}

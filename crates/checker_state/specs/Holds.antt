@@ -6,8 +6,8 @@ use Rattle.members.specs.Laws.{IsSet}
 use Rattle.domain.specs.Growths.{HasPair}
 use Rattle.domain.specs.Hull.{HasSet}
 use Rattle.domain.specs.Interval.{Interval, HasMember}
-use Rattle.meaning.specs.declared.store.Value.{Value}
-use Rattle.meaning.specs.declared.store.Value.TheVariants.{Members, Number}
+use Rattle.meaning.specs.declared.value.Value.{Value}
+use Rattle.meaning.specs.declared.value.Value.TheVariants.{Members, Number}
 use Rattle.meaning.specs.Store.{Place, Store, Environment, stored, overlap}
 use Rattle.types.specs.declared.form.OrdinalRange.{OrdinalRange}
 use Rattle.types.specs.declared.form.Step.{Step}

@@ -6,8 +6,8 @@ use Rattle.std.specs.Prelude.{Contains, slice_index_or}
 use Rattle.std.specs.List.{list_any}
 use Rattle.domain.specs.Interval.{Interval, HasMember}
 use Rattle.meaning.specs.Integers.{is_integer_number}
-use Rattle.meaning.specs.declared.store.Value.{Value}
-use Rattle.meaning.specs.declared.store.Value.TheVariants.{Members, Number}
+use Rattle.meaning.specs.declared.value.Value.{Value}
+use Rattle.meaning.specs.declared.value.Value.TheVariants.{Members, Number}
 use Rattle.meaning.specs.Store.{Environment, Store}
 use Rattle.types.specs.declared.form.Step.{Step}
 use Rattle.checker_rows.specs.Rows.{Parts, indexes_of, no_parts}

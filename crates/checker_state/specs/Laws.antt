@@ -11,8 +11,8 @@ use Rattle.members.specs.declared.sets.Operator.TheVariants as operator
 use Rattle.domain.specs.declared.growth.Growth.{Growth}
 use Rattle.domain.specs.Growths.{HasPair}
 use Rattle.domain.specs.Interval.{Interval, HasMember, common, is_included}
-use Rattle.meaning.specs.declared.store.Value.{Value}
-use Rattle.meaning.specs.declared.store.Value.TheVariants.{Members, Number}
+use Rattle.meaning.specs.declared.value.Value.{Value}
+use Rattle.meaning.specs.declared.value.Value.TheVariants.{Members, Number}
 use Rattle.meaning.specs.Effect as effect
 use Rattle.meaning.specs.Effect.{Gives, is_in}
 use Rattle.meaning.specs.Meaning.{Surroundings, is_so, value_of}

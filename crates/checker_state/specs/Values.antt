@@ -6,8 +6,8 @@ use Rattle.members.specs.declared.sets.Operator.{Operator}
 use Rattle.members.specs.declared.sets.Operator.TheVariants as operator
 use Rattle.domain.specs.Hull.{HasSet, hull_between, hull_of, members}
 use Rattle.domain.specs.Interval.{Interval, HasMember, common, is_included, joined, vacant}
-use Rattle.meaning.specs.declared.store.Value.{Value}
-use Rattle.meaning.specs.declared.store.Value.TheVariants.{Members, Number}
+use Rattle.meaning.specs.declared.value.Value.{Value}
+use Rattle.meaning.specs.declared.value.Value.TheVariants.{Members, Number}
 use Rattle.checker_state.specs.declared.value.Known.{Known}
 use Rattle.checker_state.specs.declared.value.Known.TheVariants.{Ordinal, Set}
 use Rattle.checker_state.specs.State.{State, unless_empty}

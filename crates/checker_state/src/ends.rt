@@ -3,7 +3,7 @@ ghost use Rattle.checker_state.specs.State.{moved};
 ghost use Rattle.checker_state.specs.Terms.{IsFar, IsShort};
 ghost use Rattle.checker_state.specs.View.{AreEnds};
 
-use domain::interval::Interval;
+use domain::Interval;
 
 /// The ends of a range of numbers; it is empty where the first is above the last.
 #[derive(Clone, Copy)]

@@ -6,9 +6,9 @@ ghost use Rattle.checker_rows.specs.Rows.{is_ordinal_variable};
 ghost use Rattle.typed_tree.specs.Accesses.{AtVariable, origin_of};
 ghost use Rattle.checker_state.specs.View.{said_form};
 
-use crate::bound::Bound;
+use crate::Bound;
 use checker_rows::Rows;
-use typed_tree::tree::{Access, Base, Calculation, Dyadic, Expr, Link, Monadic};
+use typed_tree::{Access, Base, Calculation, Dyadic, Expr, Link, Monadic};
 
 /// The bound that an expression is: a constant, perhaps with a sign, an entire ordinal variable, or such a variable
 /// plus or minus such a constant. `None`: it has another form.

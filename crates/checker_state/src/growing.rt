@@ -3,9 +3,7 @@ ghost use Rattle.std.specs.Bool.{OnTrue};
 ghost use Rattle.domain.specs.Growths.{stepped};
 ghost use Rattle.checker_state.specs.Growths.{growing_by, growing_on_both, has_grown_by, joined_growth, reached};
 
-use domain::Domain;
-use domain::growth::Growth;
-use domain::interval::Interval;
+use domain::{Domain, Growth, Interval};
 
 /// How a variable grows with the turns of a for statement round the point.
 #[derive(Clone, Copy)]

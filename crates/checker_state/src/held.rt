@@ -12,9 +12,8 @@ ghost use Rattle.checker_state.specs.View.{bound_by, held_by, inner_spans, said_
 ghost use Rattle.checker_state.specs.View.{said_more, said_ordered, said_point, said_span, said_span_form, said_spans};
 ghost use Rattle.checker_state.specs.View.{said_stretch, said_stretched, said_term};
 
-use crate::bound::{Bound, Rebinding};
-use crate::term::Term;
-use domain::interval::Interval;
+use crate::{Bound, Rebinding, Term};
+use domain::Interval;
 use std::cmp::Ordering;
 use types::OrdinalRange;
 

@@ -1,5 +1,5 @@
-use crate::bound::Bound;
-use domain::interval::Interval;
+use crate::Bound;
+use domain::Interval;
 
 /// An index by its value: the bound that it is, if it is one, and where it lies.
 #[derive(Clone, Copy)]

@@ -2,9 +2,7 @@ ghost use Rattle.std.specs.Prelude.{◌≡◌};
 ghost use Rattle.checker_state.specs.Values.{is_closed_member, is_closed_range, operated_sets, tested_member};
 ghost use Rattle.checker_state.specs.Values.{with_member, with_members};
 
-use domain::Domain;
-use domain::hull::Hull;
-use domain::interval::Interval;
+use domain::{Domain, Hull, Interval};
 use members::sets::Operator;
 
 /// Whether the test of a member of a set constructor surely passes (ISO 7185:1990, 6.7.1).

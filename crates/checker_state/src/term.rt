@@ -2,7 +2,7 @@ ghost use Rattle.std.specs.Prelude.{◌≡◌, ◌+ℤ◌, pos};
 ghost use Rattle.checker_state.specs.Bounds.{is_at_most, raised_bound};
 ghost use Rattle.checker_state.specs.Terms.{IsShort, IsShorter, IsWithin, bound_of_parts};
 
-use crate::bound::Bound;
+use crate::Bound;
 
 /// A bound as it stands in a test: its number may be none that bounds have.
 #[derive(Clone, Copy)]

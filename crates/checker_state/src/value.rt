@@ -1,8 +1,7 @@
 ghost use Rattle.std.specs.Prelude.{◌≡◌};
 ghost use Rattle.checker_state.specs.Values.{known_range};
 
-use domain::hull::Hull;
-use domain::interval::Interval;
+use domain::{Hull, Interval};
 
 /// What the walk knows of a value.
 #[derive(Clone, Copy)]

@@ -14,7 +14,7 @@ use Rattle.checker_state.specs.State.{Dead, Held, Live, State, Stretch, Stretche
 use Rattle.checker_state.specs.Stores.{Reach, all_stored, at_indexes, is_none, longer, or_alone, stored, with_element}
 use Rattle.checker_known.specs.Longer.{AreLonger, place_if, places_from, without}
 use Rattle.checker_trail.specs.Trail.{Moves, over_held, seen}
-use Rattle.checker_known.specs.Known.{core, viewed}
+use Rattle.checker_known.specs.Knowledge.{core, viewed}
 use Rattle.checker_state.specs.View.{said_held, said_stretch}
 use Rattle.checker_known.proofs.HeldLists.{said_all}
 use Rattle.checker_trail.proofs.Ways.{moves-as, moves-then, seen-live}

@@ -14,7 +14,7 @@ use Rattle.domain.specs.Interval.{Interval, is_vacant, joined}
 use Rattle.std.specs.Int.{int_min, int_max}
 use Rattle.checker_state.specs.declared.held.Held.{Held as KeptHeld}
 use Rattle.checker_known.specs.declared.told.Told.{Told}
-use Rattle.checker_known.specs.declared.known.Row.{Row}
+use Rattle.checker_known.specs.declared.knowledge.Row.{Row}
 use Rattle.checker_trail.specs.declared.state.State.{State as Kept}
 use Rattle.checker_known.specs.declared.change.Branch.{Branch}
 use Rattle.checker_known.specs.declared.change.Change.{Change}
@@ -26,8 +26,8 @@ use Rattle.checker_state.proofs.Grown.{joined-itself}
 use Rattle.checker_trail.specs.Meets.{AreAlike, Joined, Joins, JoinsBehind, with_rows}
 use Rattle.checker_known.specs.Told.{AreTold, arrival_at, joined_at, none, rows_changed, said_at}
 use Rattle.checker_state.specs.State.{Dead, Facts, Held, Live, RowState, State, Table, gives, is_whole, no_row, row_at, with_more}
-use Rattle.checker_trail.specs.Trail.{Comes, EndsAt, Goes, Leaves, Moves, over_held, seen}
-use Rattle.checker_known.specs.Known.{Core, core, kept_by, made, redone, seen_core, viewed}
+use Rattle.checker_trail.specs.Trail.{Comes, EndsAt, TrailGoes, TrailLeaves, Moves, over_held, seen}
+use Rattle.checker_known.specs.Knowledge.{Core, core, kept_by, made, redone, seen_core, viewed}
 use Rattle.checker_trail.specs.Trail.{with_state}
 use Rattle.checker_known.specs.View.{said_row}
 use Rattle.checker_state.specs.State.{table_of}
@@ -271,11 +271,11 @@ pub record There (start s0 s2 s4 : Kept) (end : Core) (here : Branch) : Type 0 w
   pub own_core : core s4.known ≡ core s0.known
   pub own_table : s4.table.now ≡ s0.table.now
   pub from_start : redone here.changes.items (core start.known) ≡ core s0.known
-  pub goes : Goes start s4
+  pub goes : TrailGoes start s4
 
-pub been-there : {start s0 s1 s2 s3 s4 : Kept} (end : Core) (here there other : Branch) → Goes start s0 → EndsAt (core start.known) other end
-    → Leaves start s0 s1 here → ((end : Core) → EndsAt (core s1.known) other end → Comes end s1 s2)
-    → (Goes start s2 → Leaves start s2 s3 there) → ((end : Core) → EndsAt (core s3.known) here end → Comes end s3 s4)
+pub been-there : {start s0 s1 s2 s3 s4 : Kept} (end : Core) (here there other : Branch) → TrailGoes start s0 → EndsAt (core start.known) other end
+    → TrailLeaves start s0 s1 here → ((end : Core) → EndsAt (core s1.known) other end → Comes end s1 s2)
+    → (TrailGoes start s2 → TrailLeaves start s2 s3 there) → ((end : Core) → EndsAt (core s3.known) here end → Comes end s3 s4)
     → s1.refused ≡ None → s2.refused ≡ None → s3.refused ≡ None → s4.refused ≡ None → There start s0 s2 s4 end here
 been-there {start = start} {s0 = s0} {s1 = s1} {s3 = s3} end here there other way ends leaves goes leaves_again goes_again long1 long2 long3 long4 =
     let first = leaves.unless_short long1 in
@@ -325,7 +325,7 @@ joined-dead : (table : Table) (state : State) → state ≡ joined_states table 
 joined-dead table Dead = refl
 joined-dead table (Live facts) = refl
 
-pub other-dead : {start state : Kept} (end : Core) (other : Branch) → Goes start state → EndsAt (core start.known) other end → other.is_dead ≡ true
+pub other-dead : {start state : Kept} (end : Core) (other : Branch) → TrailGoes start state → EndsAt (core start.known) other end → other.is_dead ≡ true
     → Joins start end state state
 other-dead {state = state} end other way ends dead = record {
   unless_short = λ long. record {
@@ -337,8 +337,8 @@ other-dead {state = state} end other way ends dead = record {
   };
 }
 
-pub own-dead : {start s0 s1 s2 : Kept} (end : Core) (here other : Branch) → Goes start s0 → EndsAt (core start.known) other end
-    → s0.known.is_dead ≡ true → Leaves start s0 s1 here → ((end : Core) → EndsAt (core s1.known) other end → Comes end s1 s2)
+pub own-dead : {start s0 s1 s2 : Kept} (end : Core) (here other : Branch) → TrailGoes start s0 → EndsAt (core start.known) other end
+    → s0.known.is_dead ≡ true → TrailLeaves start s0 s1 here → ((end : Core) → EndsAt (core s1.known) other end → Comes end s1 s2)
     → (s2.refused ≡ None → s1.refused ≡ None) → Joins start end s0 s2
 own-dead {start = start} {s0 = s0} {s1 = s1} end here other way ends dead leaves goes chain = record {
   unless_short = λ long.
@@ -355,9 +355,9 @@ own-dead {start = start} {s0 = s0} {s1 = s1} end here other way ends dead leaves
 
 -- ---- where the other way was walked before
 
-pub joins-behind : {start s0 s1 s2 s3 : Kept} (end : Core) (here other : Branch) → Goes start s0 → EndsAt (core start.known) other end
-    → Leaves start s0 s1 here → ((end : Core) → EndsAt (core s1.known) other end → Comes end s1 s2)
-    → (Goes start s2 → EndsAt (core start.known) here (core s0.known) → Joins start (core s0.known) s2 s3)
+pub joins-behind : {start s0 s1 s2 s3 : Kept} (end : Core) (here other : Branch) → TrailGoes start s0 → EndsAt (core start.known) other end
+    → TrailLeaves start s0 s1 here → ((end : Core) → EndsAt (core s1.known) other end → Comes end s1 s2)
+    → (TrailGoes start s2 → EndsAt (core start.known) here (core s0.known) → Joins start (core s0.known) s2 s3)
     → (s2.refused ≡ None → s1.refused ≡ None) → (s3.refused ≡ None → s2.refused ≡ None) → JoinsBehind start end s0 s3
 joins-behind {start = start} {s0 = s0} {s1 = s1} {s2 = s2} end here other way ends leaves goes joins long1 long2 = record {
   unless_short = λ long.

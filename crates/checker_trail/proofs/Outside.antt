@@ -8,7 +8,7 @@ use Rattle.std.proofs.lemmas.List.Edits.{map_over_more}
 use Rattle.checker_state.specs.declared.growing.Growing.{Growing}
 use Rattle.checker_state.specs.Growths.{growing_outside, row_outside, without_turns}
 use Rattle.checker_state.specs.State.{Dead, Facts, Live, RowState, State, no_row, row_at}
-use Rattle.checker_known.specs.Known.{core, viewed}
+use Rattle.checker_known.specs.Knowledge.{core, viewed}
 use Rattle.checker_known.specs.View.{said_row}
 use Rattle.checker_trail.specs.declared.state.State.{State as Kept}
 use Rattle.checker_trail.specs.Trail.{Moves, all_ungrown, at_outside, over_held, seen, with_growth_at}

@@ -10,16 +10,16 @@ use Rattle.std.proofs.lemmas.List.{take-append-drop, take_all}
 use Rattle.std.proofs.lemmas.List.{take_at, take_more}
 use Rattle.domain.specs.Interval.{vacant}
 use Rattle.checker_state.specs.declared.held.Held.{Held as KeptHeld}
-use Rattle.checker_known.specs.declared.known.Row.{Row}
+use Rattle.checker_known.specs.declared.knowledge.Row.{Row}
 use Rattle.checker_trail.specs.declared.state.State.{State as Kept}
 use Rattle.checker_state.specs.declared.bound.Rebinding.{Rebinding}
-use Rattle.checker_known.specs.declared.known.Known.{Known}
+use Rattle.checker_known.specs.declared.knowledge.Knowledge.{Knowledge}
 use Rattle.checker_known.specs.Resting.{AreChanging}
 use Rattle.checker_known.specs.declared.change.Change.TheVariants as change
 use Rattle.checker_state.specs.Changes.{all_changed, ordered, with_change, with_equal_to, with_some}
 use Rattle.checker_state.specs.State.{Dead, Facts, Held, Live, RowState, State, no_row, row_at, with_more, with_one, with_row}
 use Rattle.checker_known.specs.Longer.{without}
-use Rattle.checker_known.specs.Known.{Core, IsPlace, changed_at, core, seen_core, viewed}
+use Rattle.checker_known.specs.Knowledge.{Core, IsPlace, changed_at, core, seen_core, viewed}
 use Rattle.checker_trail.specs.Trail.{Makes, Moves, over_held, seen, with_state}
 use Rattle.checker_state.specs.View.{held_by, said_held}
 use Rattle.checker_known.specs.View.{said_row}
@@ -243,7 +243,7 @@ each-moves {a = a} how places changing moves =
     (each-from (held_by how) held 0 places changing.rising (λ one i past at. changing.others one i at))
 
 -- only what isn't seen became another
-pub unseen-moves : (step : State → State) (a b : Kept) (known : Known) → core known ≡ core a.known → Moves step (record a { known = known }) b
+pub unseen-moves : (step : State → State) (a b : Kept) (known : Knowledge) → core known ≡ core a.known → Moves step (record a { known = known }) b
     → Moves step a b
 unseen-moves step a b known same moves =
     let here : Kept = record a { known = known } in

@@ -10,9 +10,9 @@ use Rattle.checker_state.specs.State.{Dead, Live, State}
 use Rattle.checker_state.specs.Joins.{joined_states}
 use Rattle.checker_state.specs.State.{table_of}
 use Rattle.checker_trail.specs.Meets.{JoinsBehind}
-use Rattle.checker_known.specs.Known.{Core, core, inverse}
-use Rattle.checker_trail.specs.Trail.{Come, Comes, EndsAt, Goes, IsCut, Leaves, Left, Made, Makes, Moves, TakesBack}
-use Rattle.checker_known.specs.Known.{made, redone, seen_core, undone, viewed}
+use Rattle.checker_known.specs.Knowledge.{Core, core, inverse}
+use Rattle.checker_trail.specs.Trail.{Come, Comes, EndsAt, TrailGoes, IsCut, TrailLeaves, Left, Made, Makes, Moves, TakesBack}
+use Rattle.checker_known.specs.Knowledge.{made, redone, seen_core, undone, viewed}
 use Rattle.checker_trail.specs.Trail.{seen}
 
 -- ---- changes, some behind others
@@ -27,11 +27,11 @@ undone-append (one ∷ first) rest from = ap (made (inverse one)) (undone-append
 
 -- ---- ways
 
-pub goes-stay : (state : Kept) → Goes state state
+pub goes-stay : (state : Kept) → TrailGoes state state
 goes-stay state =
     record { same_table = refl; more = []; trail_is = sym (append-nil state.trail.items); forth = refl; back = refl }
 
-pub goes-then : {a b c : Kept} → Goes a b → Goes b c → Goes a c
+pub goes-then : {a b c : Kept} → TrailGoes a b → TrailGoes b c → TrailGoes a c
 goes-then {a = a} {b = b} {c = c} first rest = record {
   same_table = rest.same_table ∙ first.same_table;
   more = first.more ++ rest.more;
@@ -48,7 +48,7 @@ goes-then {a = a} {b = b} {c = c} first rest = record {
 abbrev pub Returns : Change → Core → Type 0
 Returns one from = made (inverse one) (made one from) ≡ from
 
-pub goes-made : {one : Change} {old new : Kept} → Made one old new → Returns one (core old.known) → Goes old new
+pub goes-made : {one : Change} {old new : Kept} → Made one old new → Returns one (core old.known) → TrailGoes old new
 goes-made {one = one} {old = old} {new = new} is returns = record {
   same_table = is.same_table;
   more = one ∷ [];
@@ -225,9 +225,9 @@ come-made {old = old} {new = new} branch end has ends = record {
 }
 
 -- a state whose changes since its start were cut off and taken back is at its start
-pub left-back : {start old cut new : Kept} (changes : List Change) (branch : Branch) → Goes start old
+pub left-back : {start old cut new : Kept} (changes : List Change) (branch : Branch) → TrailGoes start old
     → IsCut (length start.trail.items) old cut changes → HasTaken changes cut new → branch.changes.items ≡ changes
-    → branch.is_dead ≡ old.known.is_dead → Leaves start old new branch
+    → branch.is_dead ≡ old.known.is_dead → TrailLeaves start old new branch
 left-back {start = start} {old = old} {cut = cut} {new = new} changes branch way is_cut has same dead_is = record {
   unless_short = λ long.
       let taken = has.unless_short long in
@@ -253,7 +253,7 @@ left-back {start = start} {old = old} {cut = cut} {new = new} changes branch way
 -- ---- back at a start, and on from there
 
 -- a state that is again at its start can be taken back no further
-pub goes-back : {start old new : Kept} {branch : Branch} → Left start old new branch → Goes start new
+pub goes-back : {start old new : Kept} {branch : Branch} → Left start old new branch → TrailGoes start new
 goes-back {start = start} {new = new} left = record {
   same_table = left.same_table;
   more = [];
@@ -270,13 +270,13 @@ pub left-seen : {start old new : Kept} {branch : Branch} → Left start old new 
 left-seen left = ap seen_core left.core_is
 
 -- a way was taken back to its mark
-pub took-back : {start old new : Kept} {branch : Branch} (mark : ℕ) → mark ≡ length start.trail.items → Goes start old
-    → ((start : Kept) → mark ≡ length start.trail.items → Goes start old → Leaves start old new branch)
+pub took-back : {start old new : Kept} {branch : Branch} (mark : ℕ) → mark ≡ length start.trail.items → TrailGoes start old
+    → ((start : Kept) → mark ≡ length start.trail.items → TrailGoes start old → TrailLeaves start old new branch)
     → new.refused ≡ None → Left start old new branch
 took-back {start = start} mark is way back long = (back start is way).unless_short long
 
 -- on from there as a branch ended
-pub went-on : {start old new : Kept} {branch : Branch} {end : Core} → Goes start old → core old.known ≡ core start.known
+pub went-on : {start old new : Kept} {branch : Branch} {end : Core} → TrailGoes start old → core old.known ≡ core start.known
     → EndsAt (core start.known) branch end → ((end : Core) → EndsAt (core old.known) branch end → Comes end old new)
     → new.refused ≡ None → Come end old new
 went-on {start = start} {old = old} {end = end} way same ends comes long =
@@ -287,12 +287,12 @@ went-on {start = start} {old = old} {end = end} way same ends comes long =
 -- what is known there, and that it can be taken back
 pub record Met (table : Tree) (start : Kept) (first second : State) (new : Kept) : Type 0 where
   pub seen_is : seen new ≡ joined_states (table_of table) first second
-  pub goes : Goes start new
+  pub goes : TrailGoes start new
 
 -- one way was left, the other walked behind it; both began at a mark
 pub ways-meet : {start one two other new : Kept} {branch : Branch} (mark : ℕ) → mark ≡ length start.trail.items → Left start one two branch
-    → Goes two other
-    → ((start : Kept) (end : Core) → mark ≡ length start.trail.items → Goes start other → EndsAt (core start.known) branch end
+    → TrailGoes two other
+    → ((start : Kept) (end : Core) → mark ≡ length start.trail.items → TrailGoes start other → EndsAt (core start.known) branch end
     → JoinsBehind start end other new)
     → new.refused ≡ None → Met start.table.now start (seen one) (seen other) new
 ways-meet {start = start} {one = one} {two = two} {other = other} mark is left rest meets long =
@@ -306,9 +306,9 @@ ways-meet {start = start} {one = one} {two = two} {other = other} mark is left r
 -- the same of two steps
 pub moves-meet : {f g : State → State} {start one two other new : Kept} {branch : Branch} (mark : ℕ) → mark ≡ length start.trail.items
     → Moves f start one
-    → ((start : Kept) → mark ≡ length start.trail.items → Goes start one → Leaves start one two branch)
+    → ((start : Kept) → mark ≡ length start.trail.items → TrailGoes start one → TrailLeaves start one two branch)
     → (two.refused ≡ None → one.refused ≡ None) → Moves g two other
-    → ((start : Kept) (end : Core) → mark ≡ length start.trail.items → Goes start other → EndsAt (core start.known) branch end
+    → ((start : Kept) (end : Core) → mark ≡ length start.trail.items → TrailGoes start other → EndsAt (core start.known) branch end
     → JoinsBehind start end other new)
     → (new.refused ≡ None → other.refused ≡ None)
     → Moves (λ state. joined_states (table_of start.table.now) (f state) (g state)) start new

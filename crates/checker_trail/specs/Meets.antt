@@ -2,12 +2,12 @@
 use Rattle.std.specs.Prelude.{None, ◌≡◌, ◌⊎◌, ℕ, List, [], ◌∷◌, length}
 use Rattle.std.specs.Prelude.{slice_index_or}
 use Rattle.std.specs.Prelude.{Contains}
-use Rattle.checker_known.specs.declared.known.Row.{Row}
+use Rattle.checker_known.specs.declared.knowledge.Row.{Row}
 use Rattle.checker_trail.specs.declared.state.State.{State as Kept}
 use Rattle.checker_state.specs.Joins.{joined_states}
 use Rattle.checker_state.specs.State.{State}
-use Rattle.checker_known.specs.Known.{Core, seen_core}
-use Rattle.checker_trail.specs.Trail.{Goes, seen, with_state}
+use Rattle.checker_known.specs.Knowledge.{Core, seen_core}
+use Rattle.checker_trail.specs.Trail.{TrailGoes, seen, with_state}
 use Rattle.checker_known.specs.View.{said_row}
 use Rattle.checker_state.specs.State.{table_of}
 use Rattle.checker_known.specs.Told.{none}
@@ -27,7 +27,7 @@ pub record AreAlike (rows : List ℕ) (one other : Core) : Type 0 where
 pub record Joined (start : Kept) (end : Core) (old new : Kept) : Type 0 where
   pub was_long : old.refused ≡ None
   pub seen_is : seen new ≡ joined_states (table_of old.table.now) (seen old) (seen_core end)
-  pub goes : Goes start new
+  pub goes : TrailGoes start new
 
 pub record Joins (start : Kept) (end : Core) (old new : Kept) : Type 0 where
   pub unless_short : new.refused ≡ None → Joined start end old new
@@ -36,7 +36,7 @@ pub record Joins (start : Kept) (end : Core) (old new : Kept) : Type 0 where
 pub record JoinedBehind (start : Kept) (end : Core) (old new : Kept) : Type 0 where
   pub was_long : old.refused ≡ None
   pub seen_is : seen new ≡ joined_states (table_of old.table.now) (seen_core end) (seen old)
-  pub goes : Goes start new
+  pub goes : TrailGoes start new
 
 pub record JoinsBehind (start : Kept) (end : Core) (old new : Kept) : Type 0 where
   pub unless_short : new.refused ≡ None → JoinedBehind start end old new

@@ -11,7 +11,7 @@ use Rattle.checker_state.specs.declared.growing.Growing.{Growing}
 use Rattle.checker_state.specs.Growths.{row_outside}
 use Rattle.checker_state.specs.State.{Dead, Held, Live, RowState, State, of_types, row_at, with_growth, with_row}
 use Rattle.checker_known.specs.View.{type_rows}
-use Rattle.checker_known.specs.Known.{Core, core, inverse, made, redone, seen_core, undone}
+use Rattle.checker_known.specs.Knowledge.{Core, core, inverse, made, redone, seen_core, undone}
 
 abbrev pub seen : Kept → State
 seen state = seen_core (core state.known)
@@ -19,7 +19,7 @@ seen state = seen_core (core state.known)
 -- ---- ways
 
 -- a state has come from another: what was changed stands on the trail behind what stood there, and leads forth and back
-pub record Goes (old new : Kept) : Type 0 where
+pub record TrailGoes (old new : Kept) : Type 0 where
   pub same_table : new.table.now ≡ old.table.now
   pub more : List Change
   pub trail_is : new.trail.items ≡ old.trail.items ++ more
@@ -30,7 +30,7 @@ pub record Goes (old new : Kept) : Type 0 where
 pub record Moved (step : State → State) (old new : Kept) : Type 0 where
   pub was_long : old.refused ≡ None
   pub seen_is : seen new ≡ step (seen old)
-  pub goes : Goes old new
+  pub goes : TrailGoes old new
 
 -- the same unless memory ran out
 pub record Moves (step : State → State) (old new : Kept) : Type 0 where
@@ -71,14 +71,14 @@ pub record Left (start old new : Kept) (branch : Branch) : Type 0 where
   pub core_is : core new.known ≡ core start.known
   pub ends : EndsAt (core start.known) branch (core old.known)
 
-pub record Leaves (start old new : Kept) (branch : Branch) : Type 0 where
+pub record TrailLeaves (start old new : Kept) (branch : Branch) : Type 0 where
   pub unless_short : new.refused ≡ None → Left start old new branch
 
 -- a state has come to an end
 pub record Come (end : Core) (old new : Kept) : Type 0 where
   pub was_long : old.refused ≡ None
   pub core_is : core new.known ≡ end
-  pub goes : Goes old new
+  pub goes : TrailGoes old new
 
 pub record Comes (end : Core) (old new : Kept) : Type 0 where
   pub unless_short : new.refused ≡ None → Come end old new

@@ -4,14 +4,14 @@ ghost use Rattle.checker_state.specs.Changes.{all_changed, assigned, with_change
 ghost use Rattle.checker_state.specs.State.{with_more};
 ghost use Rattle.checker_known.specs.Longer.{without};
 ghost use Rattle.checker_trail.specs.Trail.{Moves, over_held};
-ghost use Rattle.checker_known.specs.Known.{changed_at, kept_by};
+ghost use Rattle.checker_known.specs.Knowledge.{changed_at, kept_by};
 ghost use Rattle.checker_known.specs.Resting.{AreChanging};
 ghost use Rattle.checker_state.specs.View.{held_by, said_form, said_held, said_ordered};
 
-use crate::state::State;
+use crate::State;
 use checker_known::Change;
 use checker_state::{Bound, Held, Order, Rebinding};
-use domain::interval::Interval;
+use domain::Interval;
 
 impl<'a> State<'a> {
     /// A variable has a value of a range from here on, perhaps of a bound form, and perhaps the one that it had plus a

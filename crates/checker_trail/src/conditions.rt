@@ -12,11 +12,10 @@ ghost use Rattle.checker_state.specs.Terms.{IsFar, IsNear};
 ghost use Rattle.checker_trail.specs.Trail.{Moves, seen};
 ghost use Rattle.checker_state.specs.View.{AreEnds, said_bound, said_form};
 
-use crate::state::State;
+use crate::State;
 use checker_state::{Bound, Ends, Order, bound_form, difference, sum};
-use domain::interval::Interval;
-use typed_tree::calls::holds_call;
-use typed_tree::tree::{Calculation, Dyadic, Expr, Link, Monadic, Relation};
+use domain::Interval;
+use typed_tree::{Calculation, Dyadic, Expr, Link, Monadic, Relation, holds_call};
 
 impl<'a> State<'a> {
     /// What is known where a condition, whose value lies in a range, had a truth value.

@@ -3,11 +3,9 @@ ghost use Rattle.checker_state.specs.Growths.{behind_step, can_grow, growing_out
 ghost use Rattle.checker_state.specs.Growths.{stepped_growth, with_growing, without_turns};
 ghost use Rattle.checker_trail.specs.Trail.{Moves, all_ungrown, at_outside, seen, with_growth_at};
 
-use crate::state::State;
+use crate::State;
 use checker_state::Growing;
-use domain::Domain;
-use domain::growth::Growth;
-use domain::interval::Interval;
+use domain::{Domain, Growth, Interval};
 
 impl<'a> State<'a> {
     /// How a variable grows with the turns of a for statement.

@@ -4,10 +4,10 @@ ghost use Rattle.checker_state.specs.Joins.{joined_states};
 ghost use Rattle.checker_state.specs.State.{table_of};
 ghost use Rattle.checker_trail.specs.Meets.{AreAlike, Joins, JoinsBehind, with_rows};
 ghost use Rattle.checker_known.specs.Told.{AreTold};
-ghost use Rattle.checker_known.specs.Known.{Core, core, seen_core};
-ghost use Rattle.checker_trail.specs.Trail.{EndsAt, Goes, Moves};
+ghost use Rattle.checker_known.specs.Knowledge.{Core, core, seen_core};
+ghost use Rattle.checker_trail.specs.Trail.{EndsAt, TrailGoes, Moves};
 
-use crate::state::{Mark, State};
+use crate::{Mark, State};
 use checker_known::{Branch, Row, Told};
 
 impl<'a> State<'a> {
@@ -15,7 +15,7 @@ impl<'a> State<'a> {
     pub fn join(&mut self, mark: Mark, other: &Branch)
         ensures long { self.new.refused ≡ None → self.old.refused ≡ None }
         ensures meets { (start : Kept) (end : Core) → mark.length ≡ length start.trail.items
-            → Goes start self.old → EndsAt (core start.known) other.now end → Joins start end self.old self.new }
+            → TrailGoes start self.old → EndsAt (core start.known) other.now end → Joins start end self.old self.new }
     {
         if other.is_dead {
             return;
@@ -31,7 +31,7 @@ impl<'a> State<'a> {
     pub fn join_behind(&mut self, mark: Mark, first: &Branch)
         ensures long { self.new.refused ≡ None → self.old.refused ≡ None }
         ensures meets { (start : Kept) (end : Core) → mark.length ≡ length start.trail.items
-            → Goes start self.old → EndsAt (core start.known) first.now end
+            → TrailGoes start self.old → EndsAt (core start.known) first.now end
             → JoinsBehind start end self.old self.new }
     {
         let here = self.leave(mark);
@@ -43,7 +43,7 @@ impl<'a> State<'a> {
     fn meet(&mut self, mark: Mark, other: &Branch)
         ensures long { self.new.refused ≡ None → self.old.refused ≡ None }
         ensures meets { (start : Kept) (end : Core) → mark.length ≡ length start.trail.items
-            → Goes start self.old → EndsAt (core start.known) other.now end → self.old.known.is_dead ≡ false
+            → TrailGoes start self.old → EndsAt (core start.known) other.now end → self.old.known.is_dead ≡ false
             → end.is_dead ≡ false → Joins start end self.old self.new }
     {
         let asked = match self.known.asked(self.alloc) {

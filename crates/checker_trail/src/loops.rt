@@ -8,10 +8,9 @@ ghost use Rattle.checker_trail.specs.Trail.{Moves, over_held, seen};
 ghost use Rattle.checker_state.specs.View.{said_claim, said_form};
 ghost use Rattle.checker_state.specs.State.{table_of};
 
-use crate::state::State;
+use crate::State;
 use checker_state::{Bound, Claim, Rebinding};
-use domain::Domain;
-use domain::interval::Interval;
+use domain::{Domain, Interval};
 
 impl<'a> State<'a> {
     /// What is known at the head of a loop: what any number of turns leaves, and the claims of a certificate.

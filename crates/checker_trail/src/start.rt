@@ -1,10 +1,10 @@
 ghost use Rattle.checker_state.specs.State.{of_types};
 ghost use Rattle.checker_trail.specs.Trail.{Starts};
 
-use crate::state::State;
-use checker_known::{Known, Resting};
+use crate::State;
+use checker_known::{Knowledge, Resting};
 use checker_rows::Rows;
-use domain::versions::Version;
+use domain::Version;
 use std::alloc::Global;
 
 impl<'a> State<'a> {
@@ -12,7 +12,7 @@ impl<'a> State<'a> {
     pub fn of_types(alloc: Global, rules: Version, table: &'a Rows<'a>) -> State<'a>
         ensures { Starts rules table.now result }
     {
-        match Known::of_types(alloc, rules, table) {
+        match Knowledge::of_types(alloc, rules, table) {
             Ok(known) => State {
                 table,
                 alloc,
@@ -23,7 +23,7 @@ impl<'a> State<'a> {
             Err(error) => State {
                 table,
                 alloc,
-                known: Known {
+                known: Knowledge {
                     rows: Vec::new(alloc),
                     growing: Vec::new(alloc),
                     held: Vec::new(alloc),

@@ -2,20 +2,18 @@ ghost use Rattle.std.specs.Prelude.{◌≡◌, None, Some, length};
 ghost use Rattle.checker_trail.specs.declared.state.State.{State as Kept};
 ghost use Rattle.checker_state.specs.State.{Dead, State as Seen, at_most, has_value, is_dead, is_defined, range_of};
 ghost use Rattle.checker_state.specs.State.{unless_empty, with_defined, with_range};
-ghost use Rattle.checker_trail.specs.Trail.{Comes, EndsAt, Goes, IsCut, Leaves, Makes, Moves, TakesBack};
-ghost use Rattle.checker_known.specs.Known.{Core, core};
+ghost use Rattle.checker_trail.specs.Trail.{Comes, EndsAt, TrailGoes, IsCut, TrailLeaves, Makes, Moves, TakesBack};
+ghost use Rattle.checker_known.specs.Knowledge.{Core, core};
 ghost use Rattle.checker_trail.specs.Trail.{seen};
 ghost use Rattle.checker_trail.specs.Trail.{with_state};
 ghost use Rattle.checker_state.specs.View.{said_bound, said_term};
 ghost use Rattle.checker_known.specs.View.{said_row};
 ghost use Rattle.checker_state.specs.State.{table_of};
 
-use checker_known::{Branch, Change, Known, Row};
+use checker_known::{Branch, Change, Knowledge, Row};
 use checker_rows::Rows;
 use checker_state::{Bound, Held, Term};
-use domain::Domain;
-use domain::interval::Interval;
-use domain::versions::Version;
+use domain::{Domain, Interval, Version};
 use memory::Refused;
 use std::alloc::Global;
 
@@ -25,7 +23,7 @@ use std::alloc::Global;
 pub struct State<'a> {
     pub(crate) table: &'a Rows<'a>,
     pub(crate) alloc: Global,
-    pub(crate) known: Known,
+    pub(crate) known: Knowledge,
     /// What was changed, the last change last.
     pub(crate) trail: Vec<Change>,
     pub(crate) refused: Option<Refused>,
@@ -91,7 +89,7 @@ impl<'a> State<'a> {
     }
 
     /// What is known, but where no run comes.
-    pub fn known(&self) -> &Known
+    pub fn known(&self) -> &Knowledge
         ensures { result.now ≡ self.now.known }
     {
         &self.known
@@ -213,8 +211,8 @@ impl<'a> State<'a> {
     /// Takes back what was done since a mark, and gives how the way from there ended.
     pub fn leave(&mut self, mark: Mark) -> Branch
         ensures long { self.new.refused ≡ None → self.old.refused ≡ None }
-        ensures back { (start : Kept) → mark.length ≡ length start.trail.items → Goes start self.old
-            → Leaves start self.old self.new result }
+        ensures back { (start : Kept) → mark.length ≡ length start.trail.items → TrailGoes start self.old
+            → TrailLeaves start self.old self.new result }
     {
         let is_dead = self.known.is_dead;
         let changes = self.cut(mark);
@@ -247,7 +245,7 @@ impl<'a> State<'a> {
         }
     }
 
-    /// Goes on as a branch from here ended.
+    /// TrailGoes on as a branch from here ended.
     pub fn go(&mut self, branch: &Branch)
         ensures long { self.new.refused ≡ None → self.old.refused ≡ None }
         ensures comes { (end : Core) → EndsAt (core self.old.known) branch.now end → Comes end self.old self.new }

@@ -7,10 +7,9 @@ ghost use Rattle.checker_state.specs.View.{inner_spans, said_claim, said_form, s
 ghost use Rattle.checker_state.specs.View.{said_reach, said_span, said_span_form};
 ghost use Rattle.checker_trail.specs.Trail.{Moves, seen};
 
-use crate::state::State;
+use crate::State;
 use checker_state::{Bound, Claim, Held, Index, Indexes, Point, Reach, Span, Stretch};
-use domain::Domain;
-use domain::interval::Interval;
+use domain::{Domain, Interval};
 use types::OrdinalRange;
 
 impl<'a> State<'a> {

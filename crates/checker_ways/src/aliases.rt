@@ -9,8 +9,7 @@ ghost use Rattle.checker_ways.specs.View.{said_stored};
 use checker_rows::Span;
 use checker_state::{Bound, Index, Indexes, Reach};
 use checker_trail::State;
-use domain::Domain;
-use domain::interval::Interval;
+use domain::{Domain, Interval};
 use types::TypeId;
 
 /// An ordinal or a set that is stored.

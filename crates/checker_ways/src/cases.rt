@@ -4,8 +4,7 @@ ghost use Rattle.checker_trail.specs.Trail.{Moves};
 ghost use Rattle.checker_loops.specs.Cases.{arm_start, at_constants, constants_before};
 
 use checker_trail::State;
-use domain::Domain;
-use domain::interval::Interval;
+use domain::{Domain, Interval};
 use std::alloc::{AllocError, Global};
 
 /// The constants before so many arms, by the rows of constants.

@@ -14,13 +14,12 @@ ghost use Rattle.checker_loops.specs.Ways.{relation_of, steady, turn_begun, turn
 ghost use Rattle.checker_loops.specs.Ways.{values_behind, way_of, way_out, where_counts, with_values};
 ghost use Rattle.checker_ways.specs.View.{said_end, said_way};
 
-use checker_loops::rounds::Round;
+use checker_loops::Round;
 use checker_rows::Rows;
 use checker_state::{Bound, Known, bound_form};
 use checker_trail::State;
-use domain::interval::Interval;
-use typed_tree::calls::holds_call;
-use typed_tree::tree::{Direction, Expr, Fitted, ForHead, RangeTest, Relation};
+use domain::Interval;
+use typed_tree::{Direction, Expr, Fitted, ForHead, RangeTest, Relation, holds_call};
 
 /// A bound of a for statement.
 #[derive(Clone, Copy)]

@@ -4,9 +4,9 @@ ghost use Rattle.code_scheme.specs.Code.{reached};
 ghost use Rattle.code_scheme.specs.Depth.{access_depth};
 ghost use Rattle.code_emitter.specs.Reaching.{address_instr, cell_of};
 
-use code_scheme::scope::{Scope, behind_fields};
-use pcode_assembler::instr::Instr;
-use typed_tree::tree::Access;
+use code_scheme::{Scope, behind_fields};
+use pcode_assembler::Instr;
+use typed_tree::Access;
 
 /// A cell at an offset in a frame behind so many static links.
 #[derive(Clone, Copy)]
@@ -25,10 +25,9 @@ pub fn cell_in_frame(scope: &Scope, access: &Access) -> Option<Cell>
     if home.refers || !behind_fields(access.selectors.as_slice()).is_empty() {
         return None;
     }
-    Some(Cell {
-        level: scope.links_to(home.level),
-        offset: scope.access_offset(access),
-    })
+    let level = scope.links_to(home.level);
+    let offset = scope.access_offset(access);
+    Some(Cell { level, offset })
 }
 
 /// What pushes the address from which the code of the selectors goes on: that in the cell of a variable parameter or of
@@ -39,13 +38,9 @@ pub fn address_in(scope: &Scope, access: &Access) -> Instr
     let home = scope.begun(access);
     let level = scope.links_to(home.level);
     if home.refers {
-        return Instr::Load {
-            level,
-            offset: home.start,
-        };
+        let offset = home.start;
+        return Instr::Load { level, offset };
     }
-    Instr::LoadAddress {
-        level,
-        offset: scope.access_offset(access),
-    }
+    let offset = scope.access_offset(access);
+    Instr::LoadAddress { level, offset }
 }

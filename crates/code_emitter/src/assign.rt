@@ -4,13 +4,11 @@ ghost use Rattle.code_scheme.specs.Depth.{access_depth, expr_depth, index_depths
 ghost use Rattle.code_scheme.specs.Sizes.{capped};
 ghost use Rattle.code_emitter.specs.Emitted.{Gets};
 
-use crate::access::{Cell, cell_in_frame};
-use crate::emitter::Emitter;
-use crate::expression::{emit_address, emit_expr, emit_whole, row_length};
 use crate::instrs::value_check_of;
-use code_scheme::scope::Scope;
-use pcode_assembler::instr::Instr;
-use typed_tree::tree::{Assignment, Copying};
+use crate::{Cell, Emitter, cell_in_frame, emit_address, emit_expr, emit_whole, row_length};
+use code_scheme::Scope;
+use pcode_assembler::Instr;
+use typed_tree::{Assignment, Copying};
 
 /// An assignment to an ordinal: its address comes first, if it is no cell of a frame; the value, its check, its store.
 /// Answers how many cells that needs at once, or the greatest number of 32 bits, as all that emits code does.
@@ -44,12 +42,8 @@ pub fn emit_copy(code: &mut Emitter, scope: &Scope, copying: &Copying) -> u32
 {
     let length = row_length(&copying.value);
     let address = emit_address(code, scope, &copying.target, copying.indexes.as_slice());
-    let value = emit_whole(
-        code,
-        scope,
-        &copying.value,
-        copying.value_indexes.as_slice(),
-    );
+    let indexes = copying.value_indexes.as_slice();
+    let value = emit_whole(code, scope, &copying.value, indexes);
     code.put(Instr::StoreMany { length });
     address.max(value.saturating_add(1))
 }

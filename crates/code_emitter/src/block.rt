@@ -6,13 +6,10 @@ ghost use Rattle.code_scheme.specs.Large.{passes_too_much as has_too_much};
 ghost use Rattle.code_emitter.specs.Emitted.{place_of, Gets, Grows};
 ghost use Rattle.typed_tree.specs.declared.tree.Tree.{Tree};
 
-use crate::emit::emit_stmt;
-use crate::emitter::{Emitter, Loss};
-use crate::instrs::load;
-use code_scheme::frame::Frame;
-use code_scheme::scope::{MOST_CELLS, Scope};
-use pcode_assembler::instr::Instr;
-use typed_tree::tree::{Block, FunctionResult};
+use crate::{Emitter, Loss, emit_stmt, load};
+use code_scheme::{Frame, MOST_CELLS, Scope};
+use pcode_assembler::Instr;
+use typed_tree::{Block, FunctionResult};
 
 /// The most cells of parameters that a call may pass.
 const MOST_PASSED: u32 = 65536;
@@ -30,13 +27,11 @@ pub fn emit_block(code: &mut Emitter, scope: &Scope, frame: Frame, number: usize
     emit_end(code, scope, number, block.heading.result);
     let variables = frame.others.min(MOST_CELLS);
     let evaluation = depth.min(MOST_CELLS);
-    code.set(
-        enter,
-        Instr::Enter {
-            variables,
-            evaluation,
-        },
-    );
+    let frame_begins = Instr::Enter {
+        variables,
+        evaluation,
+    };
+    code.set(enter, frame_begins);
     if passes_too_much(frame) {
         code.lose(Loss::TooLarge);
     }
@@ -55,11 +50,8 @@ fn emit_end(code: &mut Emitter, scope: &Scope, number: usize, value: Option<Func
         Some(function) => {
             let offset = scope.home(function.root).start;
             let site = function.defined;
-            code.put_all(&[
-                load(offset),
-                Instr::CheckDefined { site, length: 1 },
-                Instr::Return { results: 1 },
-            ]);
+            let check = Instr::CheckDefined { site, length: 1 };
+            code.put_all(&[load(offset), check, Instr::Return { results: 1 }]);
         }
     }
 }

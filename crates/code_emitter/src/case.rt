@@ -6,13 +6,10 @@ ghost use Rattle.code_scheme.specs.Sizes.{capped};
 ghost use Rattle.code_emitter.specs.Emitted.{place_of, Gets, IsKept};
 ghost use Rattle.code_emitter.specs.Pieces.{arm_code, arm_end, jumps_out};
 
-use crate::emit::emit_stmt;
-use crate::emitter::Emitter;
-use crate::expression::emit_expr;
-use crate::instrs::load;
-use code_scheme::scope::Scope;
-use pcode_assembler::instr::Instr;
-use typed_tree::tree::{CaseHead, Stmt};
+use crate::{Emitter, emit_expr, emit_stmt, load};
+use code_scheme::Scope;
+use pcode_assembler::Instr;
+use typed_tree::{CaseHead, Stmt};
 
 /// A case statement: the index, which is held; the arms; an error where it equals no constant; and what takes the index
 /// away.
@@ -29,7 +26,7 @@ pub fn emit_case(code: &mut Emitter, scope: &Scope, head: &CaseHead, arms: &Vec<
     code.put(Instr::Fail { site: head.site });
     let target = code.place();
     code.put(Instr::JumpIfFalse { target: target + 1 });
-    code.set_each(outs.as_slice(), Instr::Jump { target });
+    code.set_jumps(outs.as_slice(), target);
     index.max(inside.saturating_add(1).max(3))
 }
 
@@ -97,12 +94,11 @@ fn emit_row(code: &mut Emitter, scope: &Scope, row: &[i32])
 {
     let constants = u32::try_from(row.len()).unwrap_or(u32::MAX);
     let inside = code.place().saturating_add(constants.saturating_mul(4));
-    let choice = Instr::JumpIfFalse {
-        target: inside.saturating_add(1),
-    };
-    let value = load(scope.held_offset(0));
+    let target = inside.saturating_add(1);
+    let value = scope.held_offset(0);
     for constant in row {
         let constant = Instr::LoadConstant { value: *constant };
-        code.put_all(&[constant, value, Instr::NotEqual, choice]);
+        let choice = Instr::JumpIfFalse { target };
+        code.put_all(&[constant, load(value), Instr::NotEqual, choice]);
     }
 }

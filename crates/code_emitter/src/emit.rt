@@ -8,15 +8,14 @@ ghost use Rattle.code_emitter.specs.Pieces.{for_order, for_tests, guarded_code};
 
 use crate::assign::{emit_assign, emit_copy};
 use crate::case::emit_case;
-use crate::emitter::Emitter;
-use crate::expression::{emit_call, emit_expr};
-use crate::instrs::{check_of, load, store};
+use crate::expression::emit_call;
 use crate::read::emit_read;
 use crate::with::emit_with;
 use crate::write::emit_write;
-use code_scheme::scope::Scope;
-use pcode_assembler::instr::Instr;
-use typed_tree::tree::{Direction, Expr, ForHead, LoopHead, Stmt};
+use crate::{Emitter, check_of, emit_expr, load, store};
+use code_scheme::Scope;
+use pcode_assembler::Instr;
+use typed_tree::{Direction, Expr, ForHead, LoopHead, Stmt};
 
 /// The return of the program's frame, which never gets a value.
 const UNDEFINED: u32 = 2;
@@ -154,12 +153,9 @@ fn emit_tests(code: &mut Emitter, scope: &Scope, head: &ForHead)
     ensures { Gets code.old code.new (for_tests scope.now head.now) }
 {
     let value = scope.held_offset(0);
-    code.put_all(&[
-        load(value),
-        check_of(head.first.fits),
-        store(value),
-        check_of(head.last.fits),
-    ]);
+    let first = check_of(head.first.fits);
+    let last = check_of(head.last.fits);
+    code.put_all(&[load(value), first, store(value), last]);
 }
 
 /// The control variable gets the value that is held.
@@ -194,17 +190,10 @@ fn emit_next(code: &mut Emitter, scope: &Scope, direction: Direction, round: u32
 fn emit_end(code: &mut Emitter, scope: &Scope, control: u32)
     ensures { Gets code.old code.new (for_end scope.now control) }
 {
-    let variable = scope.home(control).start;
-    let level = scope.links_to(0);
-    code.put_all(&[
-        store(variable),
-        store(variable),
-        Instr::Load {
-            level,
-            offset: UNDEFINED,
-        },
-        store(variable),
-    ]);
+    let cell = scope.home(control).start;
+    let (level, offset) = (scope.links_to(0), UNDEFINED);
+    let nothing = Instr::Load { level, offset };
+    code.put_all(&[store(cell), store(cell), nothing, store(cell)]);
 }
 
 /// What compares the bounds of a for statement.

@@ -5,7 +5,7 @@ ghost use Rattle.code_emitter.specs.declared.emitter.Loss.TheVariants.{Memory};
 ghost use Rattle.code_emitter.specs.Emitted.{is_large, place_of, with_each, with_instr, Gets, Grows, IsKept};
 
 use memory::Refused;
-use pcode_assembler::instr::Instr;
+use pcode_assembler::Instr;
 use std::alloc::{AllocError, AllocFailed, Global};
 use std::marker::Model;
 
@@ -125,12 +125,12 @@ impl Emitter {
         }
     }
 
-    /// Sets those at some places.
-    pub fn set_each(&mut self, places: &[u32], instr: Instr)
-        ensures { self.new ≡ with_each places.now instr self.old }
+    /// Sets jumps to a target at some places.
+    pub fn set_jumps(&mut self, places: &[u32], target: u32)
+        ensures { self.new ≡ with_each places.now (Jump target) self.old }
     {
         for place in places {
-            self.set(*place, instr);
+            self.set(*place, Instr::Jump { target });
         }
     }
 

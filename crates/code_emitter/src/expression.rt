@@ -13,16 +13,11 @@ ghost use Rattle.code_scheme.specs.Sizes.{capped};
 ghost use Rattle.typed_tree.specs.WellFormed.{length_of};
 ghost use Rattle.code_emitter.specs.Emitted.{Gets};
 
-use crate::access::{Cell, address_in, cell_in_frame};
-use crate::emitter::Emitter;
-use crate::instrs::{
-    check_of, check_range, comparison_of, positive_at, question_of, set_comparison_of,
-    value_check_of,
-};
-use code_scheme::routine::Routine;
-use code_scheme::scope::{GREATEST_OFFSET, LINKS, Scope, selectors_from};
-use pcode_assembler::instr::Instr;
-use typed_tree::tree::{
+use crate::instrs::{comparison_of, question_of, set_comparison_of, value_check_of};
+use crate::{Cell, Emitter, address_in, cell_in_frame, check_of, check_range, positive_at};
+use code_scheme::{GREATEST_OFFSET, LINKS, Routine, Scope, selectors_from};
+use pcode_assembler::{EMPTY, Instr};
+use typed_tree::{
     Access, Calculation, Call, Designator, Dyadic, Expr, Link, Monadic, Passed, RangeTest,
     Relation, Selector, Shift, Whole,
 };
@@ -98,7 +93,7 @@ fn emit_set(code: &mut Emitter, scope: &Scope, designators: &[Designator], membe
     ensures needs { result ≡ capped (designators_depth 0 designators.now (index_depths members.now)) }
 {
     if designators.is_empty() {
-        code.put(Instr::LoadSet { members: 0 });
+        code.put(Instr::LoadSet { members: EMPTY });
         1
     } else {
         emit_designators(code, scope, designators, members)
@@ -330,10 +325,8 @@ fn emit_cells(code: &mut Emitter, cells: u32, site: u32)
         (LoadMany (length_of_row cells) ∷ CheckDefined site (length_of_row cells) ∷ []) }
 {
     let length = cells.min(GREATEST_LENGTH);
-    code.put_all(&[
-        Instr::LoadMany { length },
-        Instr::CheckDefined { site, length },
-    ]);
+    let check = Instr::CheckDefined { site, length };
+    code.put_all(&[Instr::LoadMany { length }, check]);
 }
 
 /// Each character, as its number.
@@ -359,10 +352,9 @@ fn emit_order(code: &mut Emitter, relation: Relation, length: u32)
 fn call_of(routine: Routine) -> Instr
     ensures { result ≡ CallProcedure (length_of_row routine.cells) routine.place }
 {
-    Instr::CallProcedure {
-        length: routine.cells.min(GREATEST_LENGTH),
-        target: routine.place,
-    }
+    let length = routine.cells.min(GREATEST_LENGTH);
+    let target = routine.place;
+    Instr::CallProcedure { length, target }
 }
 
 /// How many cells an actual parameter leaves: that of a value or of an address, or one for each component of a copy.
@@ -430,55 +422,42 @@ fn emit_shift(code: &mut Emitter, does: Shift) -> u32
     ensures emits { Gets code.old code.new (shift_code does) }
     ensures needs { result ≡ shift_depth does }
 {
-    let one = Instr::LoadConstant { value: 1 };
-    match does {
-        Shift::Same => 1,
-        Shift::Next => {
-            code.put_all(&[one, Instr::Add]);
-            2
-        }
-        Shift::Previous => {
-            code.put_all(&[one, Instr::Subtract]);
-            2
-        }
-    }
+    let step = match does {
+        Shift::Same => return 1,
+        Shift::Next => Instr::Add,
+        Shift::Previous => Instr::Subtract,
+    };
+    code.put_all(&[Instr::LoadConstant { value: 1 }, step]);
+    2
 }
 
 /// What an operation does to the two values before it, checked.
 fn emit_dyadic(code: &mut Emitter, operation: Dyadic)
     ensures { Gets code.old code.new (dyadic_code operation) }
 {
-    match operation {
-        Dyadic::Plus { overflow: site } => { code.put_all(&[Instr::CheckSum { site }, Instr::Add]) }
-        Dyadic::Minus { overflow: site } => {
-            code.put_all(&[Instr::CheckDifference { site }, Instr::Subtract])
-        }
-        Dyadic::Times { overflow: site } => {
-            code.put_all(&[Instr::CheckProduct { site }, Instr::Multiply])
-        }
-        Dyadic::Div { by_zero: site } => {
-            code.put_all(&[Instr::CheckZero { site }, Instr::Divide])
-        }
-        Dyadic::Mod { by_zero_or_less } => {
-            code.put_all(&[positive_at(by_zero_or_less), Instr::Modulo])
-        }
-        Dyadic::And => code.put(Instr::And),
-        Dyadic::Or => code.put(Instr::Or),
-        Dyadic::Relation(relation) => code.put(comparison_of(relation)),
-        Dyadic::Union => code.put(Instr::Union),
-        Dyadic::Difference => code.put(Instr::Difference),
-        Dyadic::Intersection => code.put(Instr::Intersection),
-        Dyadic::SetRelation(relation) => code.put(set_comparison_of(relation)),
-        Dyadic::In => code.put(Instr::IsMember),
-    }
+    let (check, does) = match operation {
+        Dyadic::Plus { overflow: site } => (Instr::CheckSum { site }, Instr::Add),
+        Dyadic::Minus { overflow: site } => (Instr::CheckDifference { site }, Instr::Subtract),
+        Dyadic::Times { overflow: site } => (Instr::CheckProduct { site }, Instr::Multiply),
+        Dyadic::Div { by_zero: site } => (Instr::CheckZero { site }, Instr::Divide),
+        Dyadic::Mod { by_zero_or_less } => (positive_at(by_zero_or_less), Instr::Modulo),
+        Dyadic::And => return code.put(Instr::And),
+        Dyadic::Or => return code.put(Instr::Or),
+        Dyadic::Relation(relation) => return code.put(comparison_of(relation)),
+        Dyadic::Union => return code.put(Instr::Union),
+        Dyadic::Difference => return code.put(Instr::Difference),
+        Dyadic::Intersection => return code.put(Instr::Intersection),
+        Dyadic::SetRelation(relation) => return code.put(set_comparison_of(relation)),
+        Dyadic::In => return code.put(Instr::IsMember),
+    };
+    code.put_all(&[check, does]);
 }
 
 /// Behind the value of a member: its test, and its set, joined to the one before it if there is one.
 fn emit_single(code: &mut Emitter, site: u32, joins: bool)
     ensures { Gets code.old code.new (single_code site ++ union_code joins) }
 {
-    let check = check_range(site, 0, GREATEST_MEMBER);
-    code.put_all(&[check, Instr::Singleton]);
+    code.put_all(&[check_range(site, 0, GREATEST_MEMBER), Instr::Singleton]);
     emit_union(code, joins);
 }
 

@@ -3,8 +3,8 @@ ghost use Rattle.pcode_assembler.specs.declared.instr.Instr.TheVariants.{CheckRa
 ghost use Rattle.code_scheme.specs.Code.{asked_instr, check_positive, range_check, relation_instr, set_relation_instr};
 ghost use Rattle.code_scheme.specs.Code.{value_check};
 
-use pcode_assembler::instr::Instr;
-use typed_tree::tree::{InputTest, RangeTest, Relation, Scalar, SetRelation};
+use pcode_assembler::Instr;
+use typed_tree::{InputTest, RangeTest, Relation, Scalar, SetRelation};
 
 /// The greatest value of the type integer (ISO 7185:1990, 6.4.2.2).
 const MAXINT: i32 = 2147483647;

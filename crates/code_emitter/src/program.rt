@@ -6,12 +6,11 @@ ghost use Rattle.code_scheme.specs.Code.{program_code};
 ghost use Rattle.code_scheme.specs.Large.{is_too_large};
 
 use crate::block::emit_block;
-use crate::emitter::{Emitter, Loss};
-use code_scheme::frame::{frame_at, frames, homes};
-use code_scheme::scope::Scope;
-use pcode_assembler::instr::Instr;
+use crate::{Emitter, Loss};
+use code_scheme::{Scope, frame_at, frames, homes};
+use pcode_assembler::Instr;
 use std::alloc::Global;
-use typed_tree::tree::Tree;
+use typed_tree::Tree;
 
 /// The instructions of the program, block by block: each has its frame with its variables and as many cells further as
 /// its evaluation needs, its body, and its end. The text of a code has room for each operand, for every tree.
@@ -54,21 +53,9 @@ fn place_calls(code: &mut Vec<Instr>, places: &[u32])
 fn with_call(instr: Instr, places: &[u32]) -> Instr
     ensures { result ≡ leads_to (place_in places.now) instr }
 {
-    match instr {
-        Instr::CallProcedure { length, target } => Instr::CallProcedure {
-            length,
-            target: place_of_block(places, target),
-        },
-        other => other,
+    let mut instr = instr;
+    if let Instr::CallProcedure { target, .. } = &mut instr {
+        *target = places.get(*target as usize).copied().unwrap_or(0);
     }
-}
-
-/// The place of the block with this number.
-fn place_of_block(places: &[u32], number: u32) -> u32
-    ensures { result ≡ place_in places.now number }
-{
-    match places.get(number as usize) {
-        None => 0,
-        Some(place) => *place,
-    }
+    instr
 }

@@ -4,12 +4,10 @@ ghost use Rattle.code_scheme.specs.Depth.{greatest, read_depth};
 ghost use Rattle.code_scheme.specs.Sizes.{capped};
 ghost use Rattle.code_emitter.specs.Emitted.{Gets};
 
-use crate::access::{Cell, cell_in_frame};
-use crate::emitter::Emitter;
-use crate::expression::emit_address;
-use code_scheme::scope::Scope;
-use pcode_assembler::instr::Instr;
-use typed_tree::tree::{ReadVariable, Readable, Reading};
+use crate::{Cell, Emitter, cell_in_frame, emit_address};
+use code_scheme::Scope;
+use pcode_assembler::Instr;
+use typed_tree::{ReadVariable, Readable, Reading};
 
 /// Each variable that is read, and behind a readln the next line end.
 pub fn emit_read(code: &mut Emitter, scope: &Scope, reading: &Reading) -> u32
@@ -51,10 +49,8 @@ fn emit_input(code: &mut Emitter, one: &ReadVariable)
     let point = one.point;
     let low = one.range.first;
     let high = one.range.last;
-    code.put_all(&[
-        input_of(one.reads, point),
-        Instr::CheckInput { point, low, high },
-    ]);
+    let check = Instr::CheckInput { point, low, high };
+    code.put_all(&[input_of(one.reads, point), check]);
 }
 
 /// The next line end is passed behind a readln.

@@ -6,13 +6,10 @@ ghost use Rattle.code_scheme.specs.Sizes.{capped};
 ghost use Rattle.code_emitter.specs.Emitted.{place_of, Gets, IsKept};
 ghost use Rattle.code_emitter.specs.Pieces.{among, record_code};
 
-use crate::emit::emit_stmt;
-use crate::emitter::Emitter;
-use crate::expression::emit_address;
-use code_scheme::home::Home;
-use code_scheme::scope::Scope;
-use pcode_assembler::instr::Instr;
-use typed_tree::tree::{Stmt, WithHead, WithRecord};
+use crate::{Emitter, emit_address, emit_stmt};
+use code_scheme::{Home, Scope};
+use pcode_assembler::Instr;
+use typed_tree::{Stmt, WithHead, WithRecord};
 
 /// A `with` statement: the addresses of its records, which are held while its statement runs, that statement, and what
 /// takes the addresses away.

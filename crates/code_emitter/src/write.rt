@@ -6,12 +6,10 @@ ghost use Rattle.code_scheme.specs.Depth.{written_depth};
 ghost use Rattle.code_scheme.specs.Sizes.{capped};
 ghost use Rattle.code_emitter.specs.Emitted.{Gets};
 
-use crate::emitter::Emitter;
-use crate::expression::{cells_of_whole, emit_expr, emit_whole, row_length};
-use crate::instrs::positive_at;
-use code_scheme::scope::Scope;
-use pcode_assembler::instr::Instr;
-use typed_tree::tree::{Representation, WriteParameter, Writing, Written};
+use crate::{Emitter, cells_of_whole, emit_expr, emit_whole, positive_at, row_length};
+use code_scheme::Scope;
+use pcode_assembler::Instr;
+use typed_tree::{Representation, WriteParameter, Writing, Written};
 
 /// The total width of a char that is written without one.
 const CHAR_WIDTH: i32 = 1;
@@ -98,14 +96,11 @@ fn emit_line_end(code: &mut Emitter, ends_line: bool)
 fn width_without(value: &Written) -> Instr
     ensures { result ≡ default_width value.now }
 {
-    match value {
-        Written::Ordinal { representation, .. } => Instr::LoadConstant {
-            value: width_of_ordinal(*representation),
-        },
-        Written::String { value, .. } => Instr::LoadConstant {
-            value: row_length(value) as i32,
-        },
-    }
+    let value = match value {
+        Written::Ordinal { representation, .. } => width_of_ordinal(*representation),
+        Written::String { value, .. } => row_length(value) as i32,
+    };
+    Instr::LoadConstant { value }
 }
 
 /// The same of an ordinal.

@@ -32,7 +32,7 @@ use Rattle.typed_tree.specs.Accesses.{steps_of}
 use Rattle.typed_tree.specs.WellFormed.{is_visible, is_well_formed_selector, is_well_formed_test, is_whole, leads_to}
 use Rattle.meaning.specs.Effect as effect
 use Rattle.meaning.specs.Effect.{fetch}
-use Rattle.meaning.specs.declared.store.Value.TheVariants as value
+use Rattle.meaning.specs.declared.value.Value.TheVariants as value
 use Rattle.meaning.specs.Kinds.{type_on}
 use Rattle.meaning.specs.Meaning.{Evaluation, place_at, selected}
 use Rattle.meaning.specs.Meaning as meaning

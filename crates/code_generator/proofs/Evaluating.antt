@@ -14,7 +14,7 @@ use Rattle.typed_tree.specs.Records.{Begin, begins, expression_begins, link_begi
 use Rattle.code_generator.proofs.Texts.{compares_strings, expression_compares, link_compares, passed_compares}
 use Rattle.typed_tree.specs.WellFormed.{is_well_formed_link}
 use Rattle.types.specs.Forms.{Form}
-use Rattle.meaning.specs.declared.store.Value.TheVariants as value
+use Rattle.meaning.specs.declared.value.Value.TheVariants as value
 use Rattle.check_remover.specs.Strip.{stays}
 use Rattle.stack_machine.specs.declared.cell.Cell.TheVariants.{Set}
 use Rattle.stack_machine.specs.Frames.{is_defined}

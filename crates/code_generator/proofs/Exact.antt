@@ -19,7 +19,7 @@ use Rattle.typed_tree.specs.declared.tree.Selector.TheVariants.{Element, Field}
 use Rattle.typed_tree.specs.declared.tree.Stmt.{Stmt}
 use Rattle.typed_tree.specs.declared.tree.WriteParameter.{WriteParameter}
 use Rattle.meaning.specs.declared.outcome.Ending.TheVariants.{Input}
-use Rattle.meaning.specs.declared.store.Value.TheVariants.{Number}
+use Rattle.meaning.specs.declared.value.Value.TheVariants.{Number}
 use Rattle.meaning.specs.Counting.{value_behind}
 use Rattle.meaning.specs.Store.{part}
 use Rattle.meaning.specs.Effect.{Stops, and_then, enter, is_in, stop, store, take_in, taken, use_turn}

@@ -16,7 +16,7 @@ use Rattle.typed_tree.specs.declared.tree.VariableKind.TheVariants as kinds
 use Rattle.typed_tree.specs.declared.tree.Scalar.TheVariants as scalar
 use Rattle.typed_tree.specs.Accesses.{AtVariable}
 use Rattle.typed_tree.specs.WellFormed.{is_control, is_declared, is_local_kind, leads_to_ordinal, of_one}
-use Rattle.meaning.specs.declared.store.Value.TheVariants as value
+use Rattle.meaning.specs.declared.value.Value.TheVariants as value
 use Rattle.meaning.specs.Store.{kept, forgotten}
 use Rattle.meaning.specs.Counting.{has_values, next_value}
 use Rattle.meaning.specs.Meaning.{is_among}

@@ -18,7 +18,7 @@ use Rattle.typed_tree.specs.declared.tree.Readable.TheVariants as readable
 use Rattle.typed_tree.specs.declared.tree.Scalar.TheVariants as scalar
 use Rattle.typed_tree.specs.WellFormed.{is_well_formed_input, is_well_formed_line}
 use Rattle.meaning.specs.declared.outcome.Ending.TheVariants as ending
-use Rattle.meaning.specs.declared.store.Value.TheVariants as value
+use Rattle.meaning.specs.declared.value.Value.TheVariants as value
 use Rattle.meaning.specs.Effect as effect
 use Rattle.meaning.specs.Integers as meant
 use Rattle.meaning.specs.Meaning.{asked, line_passed, read_as, unless_outside}

@@ -8,7 +8,7 @@ use Rattle.std.specs.Int.RustNames.{FitsSigned}
 use Rattle.std.proofs.Math.Nat.{div-le_self, mod-lt}
 use Rattle.std.proofs.lemmas.Int.{ints, int_wrap_fits, to_z-of_z, to_z_pos, wrapping_add_is, wrapping_sub_is, wrapping_mul_is, wrapping_neg_is}
 use Rattle.types.specs.declared.form.OrdinalRange.{OrdinalRange}
-use Rattle.meaning.specs.declared.store.Value.TheVariants as value
+use Rattle.meaning.specs.declared.value.Value.TheVariants as value
 use Rattle.meaning.specs.Effect.{is_in}
 use Rattle.meaning.specs.Integers.{is_integer_number, is_within, magnitude, maxint}
 use Rattle.meaning.specs.Integers as meant

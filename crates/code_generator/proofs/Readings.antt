@@ -9,7 +9,7 @@ use Rattle.typed_tree.specs.Accesses.{origin_of}
 use Rattle.typed_tree.specs.Kinds.{are_ordinal_indexes}
 use Rattle.typed_tree.specs.Records.{accesses_begin, all_begin, begins as all_begins, is_there}
 use Rattle.typed_tree.specs.WellFormed.{has_values, is_whole, leads_to, leads_to_read}
-use Rattle.meaning.specs.declared.store.Value.TheVariants as value
+use Rattle.meaning.specs.declared.value.Value.TheVariants as value
 use Rattle.meaning.specs.Effect as effect
 use Rattle.meaning.specs.Meaning.{accessed, read_as, unless_outside}
 use Rattle.code_scheme.specs.Code.{input_code, reached, store_code}

@@ -6,7 +6,7 @@ use Rattle.code_generator.proofs.Words.{number_of, Cell, Number, Frames, Attempt
 use Rattle.std.specs.Prelude.{negsuc, int_lt}
 use Rattle.std.proofs.Math.Seq.{take-append_seam}
 use Rattle.std.proofs.lemmas.Int.{ints}
-use Rattle.meaning.specs.declared.store.Value.TheVariants as value
+use Rattle.meaning.specs.declared.value.Value.TheVariants as value
 use Rattle.meaning.specs.Meaning.{order_of}
 use Rattle.meaning.specs.Integers as meant
 use Rattle.stack_machine.specs.Deeds.{string_written}

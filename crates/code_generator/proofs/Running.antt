@@ -6,7 +6,7 @@ use Rattle.code_generator.proofs.Words.{deed_of, Cell, Number, Attempt, Frames, 
 use Rattle.pcode_assembler.specs.declared.instr.Instr.TheVariants as instr
 use Rattle.typed_tree.specs.declared.tree.Scalar.{Scalar}
 use Rattle.typed_tree.specs.declared.tree.Scalar.TheVariants as scalar
-use Rattle.meaning.specs.declared.store.Value.TheVariants as value
+use Rattle.meaning.specs.declared.value.Value.TheVariants as value
 use Rattle.meaning.specs.Effect as effect
 use Rattle.meaning.proofs.Replies.{and_then-and_then}
 use Rattle.stack_machine.specs.Deeds.{Tests}

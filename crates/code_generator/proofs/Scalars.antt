@@ -15,7 +15,7 @@ use Rattle.typed_tree.specs.declared.tree.Scalar.TheVariants as scalar
 use Rattle.typed_tree.specs.Accesses.{lying}
 use Rattle.typed_tree.specs.Kinds.{Held, held_where, is_held}
 use Rattle.typed_tree.specs.WellFormed.{Outline, is_held_by, is_test_of}
-use Rattle.meaning.specs.declared.store.Value.TheVariants as value
+use Rattle.meaning.specs.declared.value.Value.TheVariants as value
 use Rattle.meaning.specs.Kinds.{type_at, way_of}
 use Rattle.meaning.proofs.KindsTypes.{held-is, ordinal-kind, same-type, type-part}
 use Rattle.meaning.specs.Store.{place_eq}

@@ -9,7 +9,7 @@ use Rattle.pcode_assembler.specs.declared.instr.Instr.TheVariants as instr
 use Rattle.typed_tree.specs.Records.{OpenRecord}
 use Rattle.typed_tree.specs.WellFormed.{Outline, is_visible, outline_of}
 use Rattle.meaning.specs.declared.outcome.Ending.TheVariants as ending
-use Rattle.meaning.specs.declared.store.Value.TheVariants as value
+use Rattle.meaning.specs.declared.value.Value.TheVariants as value
 use Rattle.meaning.specs.Store as meant
 use Rattle.meaning.specs.Store.{Environment}
 use Rattle.meaning.specs.Kinds.{type_on}

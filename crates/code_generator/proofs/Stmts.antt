@@ -33,7 +33,7 @@ use Rattle.typed_tree.specs.declared.tree.Stmt.TheOpen.Stmt-F.{Empty, Assign, Co
 use Rattle.typed_tree.specs.declared.tree.Stmt.TheViews.{roll-Stmt}
 use Rattle.typed_tree.specs.declared.tree.Stmt.TheFolds.{fold-Stmt, map-Stmt, fold-roll-Stmt, ind-Stmt}
 use Rattle.meaning.specs.declared.outcome.Ending.TheVariants as ending
-use Rattle.meaning.specs.declared.store.Value.TheVariants as value
+use Rattle.meaning.specs.declared.value.Value.TheVariants as value
 use Rattle.meaning.specs.Store.{kept, forgotten}
 use Rattle.meaning.specs.Counting.{has_values, next_value, value_behind, values_before}
 use Rattle.meaning.specs.Effect as effect

@@ -23,7 +23,7 @@ use Rattle.pcode_assembler.specs.declared.instr.Instr.TheVariants as instr
 use Rattle.types.specs.Components.{Steps}
 use Rattle.types.specs.Types.{have_one_length, is_same, is_string, is_structured, string_length}
 use Rattle.meaning.specs.declared.outcome.Ending.TheVariants as ending
-use Rattle.meaning.specs.declared.store.Value.TheVariants as value
+use Rattle.meaning.specs.declared.value.Value.TheVariants as value
 use Rattle.meaning.specs.Store as meant
 use Rattle.meaning.specs.Store.{written}
 use Rattle.meaning.specs.Kinds.{type_at}

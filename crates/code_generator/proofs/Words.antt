@@ -12,7 +12,7 @@ pub use Rattle.meaning.specs.Laws.{UsesTurnsExactly}
 pub use Rattle.meaning.specs.Meaning.{Argument, OfPlace, OfRow, OfValue, value_of}
 pub use Rattle.meaning.specs.Store.{Place, stored}
 pub use Rattle.meaning.specs.declared.outcome.Ending.{Ending}
-pub use Rattle.meaning.specs.declared.store.Value.{Value}
+pub use Rattle.meaning.specs.declared.value.Value.{Value}
 pub use Rattle.pcode_assembler.specs.declared.instr.Instr.{Instr}
 pub use Rattle.stack_machine.specs.Deeds.{deed_of}
 pub use Rattle.stack_machine.specs.Frames.{Attempt, Frames, is_true}

@@ -16,13 +16,13 @@ use Rattle.typed_tree.specs.declared.site.Point.{Point}
 use Rattle.typed_tree.specs.declared.site.Site.{Site}
 use Rattle.typed_tree.specs.declared.site.SiteKind.{SiteKind}
 use Rattle.typed_tree.specs.declared.site.SiteKind.TheVariants as kind
-use Rattle.typed_tree.specs.Sites.{number_of}
+use Rattle.typed_tree.specs.Sites.{code_of}
 use Rattle.code_scheme.specs.Code.{program_code}
 use Rattle.code_scheme.specs.Large.{is_too_large, one_passes_too_much}
 use Rattle.code_scheme.proofs.Bounds.{program_in_bounds, program_names}
 use Rattle.code_generator.specs.Tables.{IsNumbered, has_room, in_plain_numbers, is_spelled, point_in_plain_numbers, point_table, site_table}
 
-kind_is : (k : SiteKind) → is_kind (number_of k) ≡ true
+kind_is : (k : SiteKind) → is_kind (code_of k) ≡ true
 kind_is kind.Index = refl
 kind_is kind.Subrange = refl
 kind_is kind.UndefinedVariable = refl

@@ -1,6 +1,6 @@
 -- The tables of sites and points of some code: those of the tree, in plain numbers; and which trees have no code, since
 -- it would be too large. It does not say where sites stand.
-use Rattle.std.specs.Prelude.{◌≡◌, ◌&&◌, ◌||◌, Bool, List, length, map, nat_le, not}
+use Rattle.std.specs.Prelude.{◌&&◌, ◌||◌, Bool, List, length, map, nat_le, not}
 use Rattle.std.specs.List.{list_all}
 use Rattle.pcode_assembler.specs.declared.code.Site.{Site as Plain}
 use Rattle.pcode_assembler.specs.declared.code.Point.{Point as PlainPoint}
@@ -11,12 +11,12 @@ use Rattle.pcode_assembler.specs.Lines.{is_place}
 use Rattle.code_scheme.specs.Large.{is_too_large}
 use Rattle.typed_tree.specs.declared.tree.Tree.{Tree}
 use Rattle.typed_tree.specs.Ids.{AreInOrder, ArePointsInOrder}
-use Rattle.typed_tree.specs.Sites.{number_of}
+use Rattle.typed_tree.specs.Sites.{code_of}
 
 -- a site in plain numbers
 abbrev pub in_plain_numbers : Site → Plain
 in_plain_numbers site =
-    record { id = site.id; line = site.place.line; column = site.place.column; kind = number_of site.kind }
+    record { id = site.id; line = site.place.line; column = site.place.column; kind = code_of site.kind }
 
 -- a point in plain numbers
 abbrev pub point_in_plain_numbers : Point → PlainPoint

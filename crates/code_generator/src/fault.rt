@@ -3,9 +3,9 @@ ghost use Rattle.memory.specs.Refused.{the_refusal};
 ghost use Rattle.code_generator.specs.declared.fault.GenFault.TheVariants.{Memory};
 ghost use Rattle.code_generator.specs.Faults.{fault_of};
 
-use code_emitter::emitter::Loss;
+use code_emitter::Loss;
 use memory::Refused;
-use std::alloc::{AllocError, AllocFailed};
+use std::alloc::AllocError;
 use thiserror::Error;
 
 /// Why a typed tree has no code.
@@ -23,14 +23,6 @@ impl From<AllocError> for GenFault {
     ghost from_gives = { λ _ e. e ≡ Memory the_refusal };
 
     fn from(error: AllocError) -> GenFault {
-        GenFault::Memory(error.into())
-    }
-}
-
-impl<T: Drop> From<AllocFailed<T>> for GenFault {
-    ghost from_gives = { λ _ e. e ≡ Memory the_refusal };
-
-    fn from(error: AllocFailed<T>) -> GenFault {
         GenFault::Memory(error.into())
     }
 }

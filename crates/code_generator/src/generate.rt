@@ -12,9 +12,9 @@ use crate::fault::GenFault;
 use crate::known::known;
 use crate::tables::{has_room, points_of, sites_of};
 use code_emitter::program::instructions_of;
-use pcode_assembler::code::Code;
+use pcode_assembler::Code;
 use std::alloc::Global;
-use typed_tree::tree::Tree;
+use typed_tree::Tree;
 
 /// The code of the program: its instructions, and the tables of the tree's sites and points. Each check has its site,
 /// and the text of a code has room for each operand. If the tree is well formed, the code follows the program, for

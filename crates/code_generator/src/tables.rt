@@ -1,13 +1,12 @@
 ghost use Rattle.std.specs.Prelude.{◌≡◌, IfOk};
-ghost use Rattle.code_generator.specs.Tables.{has_room, in_plain_numbers, is_spelled, point_in_plain_numbers};
+ghost use Rattle.code_generator.specs.Tables.{has_room, is_spelled};
 ghost use Rattle.code_generator.specs.Tables.{point_table, points_are_spelled, site_table, sites_are_spelled};
 ghost use Rattle.pcode_assembler.specs.Lines.{is_place};
 
 use pcode_assembler::code as plain;
 use place::Place;
 use std::alloc::{AllocError, Global};
-use typed_tree::site::{Point, Site};
-use typed_tree::tree::Tree;
+use typed_tree::{Point, Site, Tree};
 
 /// How many sites, and how many points, a text of code has room for.
 const MOST_ROWS: usize = 1_000_000;
@@ -53,43 +52,23 @@ fn is_place(number: u32) -> bool
 pub fn sites_of(alloc: Global, sites: &[Site]) -> Result<Vec<plain::Site>, AllocError>
     ensures { IfOk result (λ table. table.items ≡ site_table sites.now) }
 {
-    let mut table = Vec::with_capacity(alloc, sites.len())?;
-    for site in sites {
-        table.push(plain_site(*site))?;
-    }
-    Ok(table)
+    let plain = sites.iter().map(|site| plain::Site {
+        id: site.id,
+        line: site.place.line,
+        column: site.place.column,
+        kind: site.kind.number(),
+    });
+    plain.collect(alloc)
 }
 
 /// The points in plain numbers.
 pub fn points_of(alloc: Global, points: &[Point]) -> Result<Vec<plain::Point>, AllocError>
     ensures { IfOk result (λ table. table.items ≡ point_table points.now) }
 {
-    let mut table = Vec::with_capacity(alloc, points.len())?;
-    for point in points {
-        table.push(plain_point(*point))?;
-    }
-    Ok(table)
-}
-
-/// The site in plain numbers.
-fn plain_site(site: Site) -> plain::Site
-    ensures { result ≡ in_plain_numbers site }
-{
-    plain::Site {
-        id: site.id,
-        line: site.place.line,
-        column: site.place.column,
-        kind: site.kind.number(),
-    }
-}
-
-/// The point in plain numbers.
-fn plain_point(point: Point) -> plain::Point
-    ensures { result ≡ point_in_plain_numbers point }
-{
-    plain::Point {
+    let plain = points.iter().map(|point| plain::Point {
         id: point.id,
         line: point.place.line,
         column: point.place.column,
-    }
+    });
+    plain.collect(alloc)
 }

@@ -2,7 +2,7 @@ pub mod Arms
 pub mod Bounds
 pub mod Depths
 mod Examples
-pub mod Frames
+pub mod Framed
 pub mod Moved
 pub mod Pieces
 pub mod Routines

@@ -5,7 +5,7 @@ use Rattle.std.specs.List.{flat_map}
 use Rattle.std.specs.Prelude.{ℤ, fold}
 use Rattle.std.proofs.lemmas.List.Sums.{fold_push}
 use Rattle.std.proofs.lemmas.Simd.{map-map}
-use Rattle.std.proofs.lemmas.List.{take_more, map_push, map_more}
+use Rattle.std.proofs.lemmas.List.{take_more, map_push}
 use Rattle.std.specs.Global.{Vec, Box}
 use Rattle.pcode_assembler.specs.declared.instr.Instr.{Instr}
 use Rattle.typed_tree.specs.declared.tree.Access.{Access}
@@ -254,12 +254,6 @@ passed_depth-Reference type_id access indexes =
 pub arms_depth-none : (rows : List (Vec ℤ)) → arms_depth rows [] ≡ 0
 arms_depth-none [] = refl
 arms_depth-none (row ∷ rows) = refl
-
--- a loop that writes a list, one element further
-pub map_one_more : {X Y : Type 0} (f : X → Y) (xs : List X) (i : ℕ) (d : X) (before after : List Y) (y : Y) → before ≡ map f (take i xs) → i < length xs
-    → y ≡ f (get_or xs i d) → after ≡ before ++ (y ∷ []) → after ≡ map f (take (i + 1) xs)
-map_one_more f xs i d before after y so_far inside is grown =
-    grown ∙ ap (λ ys. ys ++ (y ∷ [])) so_far ∙ ap (λ v. map f (take i xs) ++ (v ∷ [])) is ∙ sym (map_more f xs i d inside)
 
 -- the greatest depth so far, and one more
 pub greatest_one_more : {X : Type 0} (depth_of : X → ℕ) (first : ℕ) (xs : List X) (i : ℕ) (x : X) → i < length xs → x ≡ get_or xs i x

@@ -6,10 +6,9 @@ ghost use Rattle.code_scheme.specs.Frames.{frame_at as frame_in, start_with, Are
 ghost use Rattle.code_scheme.specs.Scopes.{block_level, homes_of, level_of as level_in, slot_cells as cells_of_slot};
 ghost use Rattle.code_scheme.specs.Sizes.{capped};
 
-use crate::home::Home;
-use crate::scope::{GREATEST_OFFSET, LINKS};
+use crate::{GREATEST_OFFSET, Home, LINKS};
 use std::alloc::{AllocError, Global};
-use typed_tree::tree::{Block, Tree, Variable, VariableKind};
+use typed_tree::{Block, Tree, Variable, VariableKind};
 use types::TypeTable;
 
 /// How many cells the frame of a block has behind its links: each is a number of 32 bits, or the greatest.
@@ -57,20 +56,15 @@ pub fn homes(alloc: Global, tree: &Tree, frames: &[Frame]) -> Result<Vec<Home>, 
 pub fn frame_at(frames: &[Frame], block: usize) -> Frame
     ensures { result ≡ frame_in frames.now block }
 {
-    match frames.get(block) {
-        None => EMPTY,
-        Some(frame) => *frame,
-    }
+    frames.get(block).copied().unwrap_or(EMPTY)
 }
 
 /// The level of the block with this number among these: how many stand round it.
 pub fn level_of(blocks: &[Block], number: usize) -> usize
     ensures { result ≡ level_in (slice_get blocks.now number) }
 {
-    match blocks.get(number) {
-        None => 0,
-        Some(block) => block.heading.around.len(),
-    }
+    let block = blocks.get(number);
+    block.map_or(0, |block| block.heading.around.len())
 }
 
 /// Where a variable begins in the frame of its block, where those before it are counted so, and all so.
@@ -79,13 +73,10 @@ fn start_in(before: &[Frame], all: &[Frame], variable: Variable) -> u32
 {
     let block = variable.block as usize;
     let before = frame_at(before, block);
+    let parameters = frame_at(all, block).parameters;
     let cells = match variable.kind {
         VariableKind::ValueParameter | VariableKind::VariableParameter => before.parameters,
-        VariableKind::Local | VariableKind::Result => {
-            frame_at(all, block)
-                .parameters
-                .saturating_add(before.others)
-        }
+        VariableKind::Local | VariableKind::Result => parameters.saturating_add(before.others),
     };
     cells.saturating_add(LINKS).min(GREATEST_OFFSET)
 }

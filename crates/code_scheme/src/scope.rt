@@ -6,11 +6,9 @@ ghost use Rattle.code_scheme.specs.Scopes.{behind_fields as behind, fields_offse
 ghost use Rattle.code_scheme.specs.Scopes.{selectors_from as from};
 ghost use Rattle.code_scheme.specs.Sizes.{capped};
 
-use crate::frame::{Frame, frame_at, level_of};
-use crate::home::Home;
-use crate::routine::Routine;
+use crate::{Frame, Home, Routine, frame_at, level_of};
 use std::marker::Model;
-use typed_tree::tree::{Access, Base, Block, Selector, Tree};
+use typed_tree::{Access, Base, Block, Selector, Tree};
 
 /// The most cells that a frame has for variables, that may be held above them, or that an evaluation is given.
 pub const MOST_CELLS: u32 = 16777216;
@@ -149,33 +147,23 @@ impl<'s> Scope<'s> {
     pub fn access_offset(&self, access: &Access) -> u32
         ensures { result ≡ access_offset self.now access.now }
     {
-        let offset = self
-            .begun(access)
-            .start
-            .saturating_add(fields_offset(access.selectors.as_slice()));
-        offset.min(GREATEST_OFFSET)
+        let start = self.begun(access).start;
+        let fields = fields_offset(access.selectors.as_slice());
+        start.saturating_add(fields).min(GREATEST_OFFSET)
     }
 
     /// Where the n-th cell lies that is held above those that are held already, or the greatest offset.
     pub fn held_offset(&self, n: u32) -> u32
         ensures { result ≡ held_offset self.now n }
     {
-        let offset = self.next.saturating_add(n);
-        offset.min(GREATEST_OFFSET)
+        self.next.saturating_add(n).min(GREATEST_OFFSET)
     }
 
     /// The scope of code that runs while so many cells more are held.
-    pub fn holding(&self, cells: u32) -> Scope<'s>
+    pub fn holding(&self, cells: u32) -> Scope<'_>
         ensures { result ≡ holding cells self.now }
     {
-        Scope {
-            homes: self.homes,
-            blocks: self.blocks,
-            frames: self.frames,
-            level: self.level,
-            next: self.next.saturating_add(cells).min(MOST_CELLS),
-            records: self.records,
-        }
+        self.among(self.records, cells)
     }
 
     /// The records of `with` statements round it.
@@ -217,10 +205,7 @@ impl<'s> Scope<'s> {
 fn home_at(homes: &[Home], number: u32) -> Home
     ensures { result ≡ home_or_none (slice_get homes.now number) }
 {
-    match homes.get(number as usize) {
-        None => NO_HOME,
-        Some(home) => *home,
-    }
+    homes.get(number as usize).copied().unwrap_or(NO_HOME)
 }
 
 // How many cells lie before the component that the fields before the first index select, or the greatest number of 32

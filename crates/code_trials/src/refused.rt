@@ -1,7 +1,6 @@
 //! Texts that are no code's, and what is told of them.
 
-use pcode_assembler::assemble;
-use pcode_assembler::fault::AsmFault;
+use pcode_assembler::{AsmFault, assemble};
 use std::alloc::{AllocError, Global};
 use std::test::Fail;
 

@@ -17,7 +17,7 @@ use Rattle.typed_tree.specs.Look.{Look}
 use Rattle.typing.specs.Constants.{constant}
 use Rattle.typing.specs.Denoters.{denoted_type, index_type, index_types}
 use Rattle.typing.specs.Names.{folded, group_names, type_names}
-use Rattle.typing.specs.Outcomes.{Takes}
+use Rattle.typing.specs.Outcomes.{TypingTakes}
 use Rattle.typing.specs.Passing.{Passed, Passing, after, each}
 use Rattle.typing.specs.Routines.{declared, definition, group, local, parameters_named, type_definition, waiting_for}
 use Rattle.typing.specs.Steps.{add_type, declare, pass}
@@ -82,7 +82,7 @@ pub waiting_for_keeps : (is_function : Bool) (name : Name) → Keeps (waiting_fo
 waiting_for_keeps = waiting_for_walks true Anyone tt 0
 
 -- names stay known behind a step, if it passes
-pub known_behind : {A : Type 0} (step : Passing A) → Keeps step → (old new : Passed) (answer : Result A TypeFault) → Takes (step old) answer new
+pub known_behind : {A : Type 0} (step : Passing A) → Keeps step → (old new : Passed) (answer : Result A TypeFault) → TypingTakes (step old) answer new
     → (names : List Name) → AreKnown names old.regions → IfOk answer (λ _. AreKnown names new.regions)
 known_behind step keeps old new (Err why) takes names known = tt
 known_behind step keeps old new (Ok answer) takes names known =

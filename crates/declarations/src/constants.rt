@@ -1,12 +1,12 @@
 ghost use Rattle.scopes.specs.Scopes.{Knows};
 ghost use Rattle.typing.specs.Names.{folded};
-ghost use Rattle.typing.specs.Outcomes.{Takes};
+ghost use Rattle.typing.specs.Outcomes.{TypingTakes};
 ghost use Rattle.typing.specs.Passing.{each};
 ghost use Rattle.typing.specs.Routines as spec;
 ghost use Rattle.declarations.specs.Known.{AreKnownDefinitions};
 
 use syntax_tree::ConstantDefinition;
-use typed_tree::fault::TypeFault;
+use typed_tree::TypeFault;
 use typing::Typer;
 
 /// Passes the constant definitions, in the order of the text.
@@ -15,7 +15,7 @@ pub(crate) fn declare_constants(
     definitions: &[ConstantDefinition],
 ) -> Result<(), TypeFault>
     requires known { AreKnownDefinitions definitions.now typer.old.regions }
-    ensures { Takes (each spec.definition definitions.now typer.old) result typer.new }
+    ensures { TypingTakes (each spec.definition definitions.now typer.old) result typer.new }
 {
     for definition in definitions {
         declare_constant(typer, definition)?;
@@ -27,7 +27,7 @@ pub(crate) fn declare_constants(
 #[tactic(auto, unfolding(typing::specs::Routines::definition))]
 fn declare_constant(typer: &mut Typer, definition: &ConstantDefinition) -> Result<(), TypeFault>
     requires known { Knows typer.old.regions (folded definition.now.name.text.now) }
-    ensures { Takes (spec.definition definition.now typer.old) result typer.new }
+    ensures { TypingTakes (spec.definition definition.now typer.old) result typer.new }
 {
     let denotation = typer.constant(&definition.value)?;
     typer.declare(&definition.name, denotation)

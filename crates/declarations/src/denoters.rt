@@ -3,13 +3,13 @@ ghost use Rattle.syntax_tree.specs.Places.{fields_of};
 ghost use Rattle.types.specs.Forms.{field_form};
 ghost use Rattle.typing.specs.Denoters as spec;
 ghost use Rattle.typing.specs.Names.{denoter_names};
-ghost use Rattle.typing.specs.Outcomes.{Takes, Makes};
+ghost use Rattle.typing.specs.Outcomes.{TypingTakes, Makes};
 ghost use Rattle.declarations.specs.Known.{AreKnown, names_in, names_in_groups};
 
 use place::Place;
 use scopes::Denotation;
 use syntax_tree::{Constant, Name, TypeDenoter};
-use typed_tree::fault::TypeFault;
+use typed_tree::TypeFault;
 use types::{Field, TypeForm, TypeId};
 use typing::{Typer, add_fields, value_of};
 
@@ -18,7 +18,7 @@ use typing::{Typer, add_fields, value_of};
 #[tactic(auto, using(typing::proofs::Written::written_denoters))]
 pub(crate) fn denoted_type(typer: &mut Typer, denoter: &TypeDenoter) -> Result<TypeId, TypeFault>
     requires known { AreKnown (denoter_names denoter.now) typer.old.regions }
-    ensures { Takes (spec.denoted_type denoter.now typer.old) result typer.new }
+    ensures { TypingTakes (spec.denoted_type denoter.now typer.old) result typer.new }
 {
     match denoter {
         TypeDenoter::Name(name) => typer.type_of_name(name),
@@ -69,7 +69,7 @@ fn set_type(
     base: &TypeDenoter,
 ) -> Result<TypeId, TypeFault>
     requires known { AreKnown (denoter_names base.now) typer.old.regions }
-    ensures { Takes (spec.set_type packed place (spec.denoted_type base.now) typer.old) result typer.new }
+    ensures { TypingTakes (spec.set_type packed place (spec.denoted_type base.now) typer.old) result typer.new }
 {
     typer.pass(place);
     let id = index_type(typer, base)?;
@@ -98,7 +98,7 @@ fn index_types(typer: &mut Typer, denoters: &[TypeDenoter]) -> Result<Vec<TypeId
 #[tactic(auto, unfolding(typing::specs::Denoters::index_type, typing::specs::Steps::latest))]
 fn index_type(typer: &mut Typer, denoter: &TypeDenoter) -> Result<TypeId, TypeFault>
     requires known { AreKnown (denoter_names denoter.now) typer.old.regions }
-    ensures { Takes (spec.index_type (spec.denoted_type denoter.now) typer.old) result typer.new }
+    ensures { TypingTakes (spec.index_type (spec.denoted_type denoter.now) typer.old) result typer.new }
 {
     let id = denoted_type(typer, denoter)?;
     if !typer.types().is_ordinal(id) {
@@ -130,7 +130,7 @@ fn grouped_fields(
 #[tactic(auto, unfolding(typing::specs::Denoters::enumeration, typing::specs::Steps::latest))]
 fn enumeration(typer: &mut Typer, names: &[Name]) -> Result<TypeId, TypeFault>
     requires known { AreKnown names.now typer.old.regions }
-    ensures { Takes (spec.enumeration names.now typer.old) result typer.new }
+    ensures { TypingTakes (spec.enumeration names.now typer.old) result typer.new }
 {
     let place = typer.latest();
     let last = value_of(names.len().saturating_sub(1), place)?;
@@ -142,7 +142,7 @@ fn enumeration(typer: &mut Typer, names: &[Name]) -> Result<TypeId, TypeFault>
 // Its constants, in their order.
 fn declare_constants(typer: &mut Typer, type_id: TypeId, names: &[Name]) -> Result<(), TypeFault>
     requires known { AreKnown names.now typer.old.regions }
-    ensures { Takes (spec.constants_from type_id 0 names.now typer.old) result typer.new }
+    ensures { TypingTakes (spec.constants_from type_id 0 names.now typer.old) result typer.new }
 {
     for (number, name) in names.iter().enumerate() {
         let value = value_of(number, name.place)?;
@@ -159,7 +159,7 @@ fn subrange(
     between: Place,
     last: &Constant,
 ) -> Result<TypeId, TypeFault>
-    ensures { Takes (spec.subrange first.now between last.now typer.old) result typer.new }
+    ensures { TypingTakes (spec.subrange first.now between last.now typer.old) result typer.new }
 {
     let first = typer.ordinal_constant(first)?;
     let last = typer.ordinal_constant(last)?;

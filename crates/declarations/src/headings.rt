@@ -1,7 +1,7 @@
 ghost use Rattle.std.specs.Prelude.{◌≡◌, [], ◌∷◌, flat_map};
 ghost use Rattle.syntax_tree.specs.declared.Heading.TheVariants.{Resumed};
 ghost use Rattle.typing.specs.Names.{formal_names, heading_names};
-ghost use Rattle.typing.specs.Outcomes.{Takes, Makes};
+ghost use Rattle.typing.specs.Outcomes.{TypingTakes, Makes};
 ghost use Rattle.typing.specs.Routines as spec;
 ghost use Rattle.declarations.specs.Parts.{begun_of, heading_inside, heading_of, name_of_result};
 ghost use Rattle.declarations.specs.Known.{AreKnown};
@@ -10,8 +10,7 @@ use crate::names::formal_names;
 use place::Place;
 use scopes::Denotation;
 use syntax_tree::{FormalGroup, Heading, Name, Passing};
-use typed_tree::fault::TypeFault;
-use typed_tree::tree::VariableKind;
+use typed_tree::{TypeFault, VariableKind};
 use types::TypeId;
 use typing::Typer;
 
@@ -111,7 +110,8 @@ fn heading(
     groups: &[FormalGroup],
     of_result: Option<&Name>,
 ) -> Result<(), TypeFault>
-    ensures { Takes (heading_of number place groups.now (name_of_result of_result.entry) typer.old) result typer.new }
+    ensures { TypingTakes (heading_of number place groups.now (name_of_result of_result.entry) typer.old) result
+        typer.new }
 {
     let types = group_types(typer, groups)?;
     let result_id = type_of_result(typer, of_result)?;
@@ -131,7 +131,7 @@ fn group_types(typer: &mut Typer, groups: &[FormalGroup]) -> Result<Vec<TypeId>,
 
 // The type of a result, if there is one.
 fn type_of_result(typer: &mut Typer, of_result: Option<&Name>) -> Result<Option<TypeId>, TypeFault>
-    ensures { Takes (spec.type_of_result (name_of_result of_result.entry) typer.old) result typer.new }
+    ensures { TypingTakes (spec.type_of_result (name_of_result of_result.entry) typer.old) result typer.new }
 {
     match of_result {
         None => Ok(None),
@@ -142,7 +142,7 @@ fn type_of_result(typer: &mut Typer, of_result: Option<&Name>) -> Result<Option<
 // The type of a result is ordinal: K1 at its name where it isn't.
 #[tactic(auto, unfolding(typing::specs::Routines::result_type))]
 fn result_type(typer: &mut Typer, name: &Name) -> Result<TypeId, TypeFault>
-    ensures { Takes (spec.result_type name.now typer.old) result typer.new }
+    ensures { TypingTakes (spec.result_type name.now typer.old) result typer.new }
 {
     let id = typer.type_of_name(name)?;
     if !typer.types().is_ordinal(id) {
@@ -160,7 +160,7 @@ fn heading_inside(
     types: &[TypeId],
     result_id: Option<TypeId>,
 ) -> Result<(), TypeFault>
-    ensures { Takes (heading_inside number place groups.now types.now result_id typer.old) result typer.new }
+    ensures { TypingTakes (heading_inside number place groups.now types.now result_id typer.old) result typer.new }
 {
     let cells = typer.begin_heading();
     let root = typer.result(number, place, result_id)?;

@@ -1,20 +1,20 @@
 ghost use Rattle.std.specs.Prelude.{◌≡◌};
 ghost use Rattle.scopes.specs.Scopes.{Knows};
 ghost use Rattle.typing.specs.Names.{folded};
-ghost use Rattle.typing.specs.Outcomes.{Takes};
+ghost use Rattle.typing.specs.Outcomes.{TypingTakes};
 ghost use Rattle.typing.specs.Passing.{each};
 ghost use Rattle.typing.specs.Typing as spec;
 ghost use Rattle.declarations.specs.Known.{AreKnown};
 
 use scopes::{Denotation, File};
 use syntax_tree::Name;
-use typed_tree::fault::TypeFault;
+use typed_tree::TypeFault;
 use typing::{Typer, folded};
 
 /// Passes the program parameters, in the order of the text.
 pub(crate) fn declare_parameters(typer: &mut Typer, names: &[Name]) -> Result<(), TypeFault>
     requires known { AreKnown names.now typer.old.regions }
-    ensures { Takes (each spec.parameter_of_program names.now typer.old) result typer.new }
+    ensures { TypingTakes (each spec.parameter_of_program names.now typer.old) result typer.new }
 {
     for name in names {
         declare_parameter(typer, name)?;
@@ -26,7 +26,7 @@ pub(crate) fn declare_parameters(typer: &mut Typer, names: &[Name]) -> Result<()
 #[tactic(auto, unfolding(typing::specs::Typing::parameter_of_program))]
 fn declare_parameter(typer: &mut Typer, name: &Name) -> Result<(), TypeFault>
     requires known { Knows typer.old.regions (folded name.now.text.now) }
-    ensures { Takes (spec.parameter_of_program name.now typer.old) result typer.new }
+    ensures { TypingTakes (spec.parameter_of_program name.now typer.old) result typer.new }
 {
     let key = folded(typer.alloc, name.text)?;
     let Some(file) = file_of(&key) else {

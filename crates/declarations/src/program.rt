@@ -1,7 +1,7 @@
 ghost use Rattle.std.specs.Prelude.{◌≡◌, [], ◌++◌, Ok, IfOk, IfErr, MatchResult};
 ghost use Rattle.typing.specs.Blocks.{BeginsBlock, block_begins};
 ghost use Rattle.typing.specs.Names.{all_folded};
-ghost use Rattle.typing.specs.Outcomes.{Takes, IsFault};
+ghost use Rattle.typing.specs.Outcomes.{TypingTakes, IsFault};
 ghost use Rattle.typing.specs.Passing.{after};
 ghost use Rattle.typing.specs.Routines.{typed_block};
 ghost use Rattle.typing.specs.Typing.{parameters_of_program};
@@ -15,7 +15,7 @@ use crate::type_definitions::declare_types;
 use crate::variables::declare_groups;
 use std::alloc::Global;
 use syntax_tree::{Block, Program};
-use typed_tree::fault::TypeFault;
+use typed_tree::TypeFault;
 use typing::{BegunBlock, Typer};
 
 /// What is known behind the parameters of a program, where its block begins, or the first rule that they break, with
@@ -33,7 +33,7 @@ pub fn begin_program(alloc: Global, program: &Program) -> Result<Typer, TypeFaul
 // Passes the parameters, with the region of the required identifiers round them.
 #[tactic(auto, unfolding(typing::specs::Typing::parameters_of_program))]
 fn begin(typer: &mut Typer, program: &Program) -> Result<(), TypeFault>
-    ensures passed { Takes (parameters_of_program program.now (typed_block program.now.block) typer.old)
+    ensures passed { TypingTakes (parameters_of_program program.now (typed_block program.now.block) typer.old)
         result typer.new }
     ensures known { IfOk result (λ _. AreKnown (typed_block program.now.block).names typer.new.regions) }
 {
@@ -57,7 +57,7 @@ pub fn begin_block(typer: &mut Typer, number: u32, block: &Block) -> Result<Begu
 /// they break, with its place (S1 to S3, K1, Y1, Y2, Y3).
 pub fn declare(typer: &mut Typer, block: &Block) -> Result<(), TypeFault>
     requires known { AreKnown (typed_block block.now).names typer.old.regions }
-    ensures { Takes (block_declarations block.now typer.old) result typer.new }
+    ensures { TypingTakes (block_declarations block.now typer.old) result typer.new }
 {
     declare_constants(typer, &block.constants)?;
     declare_types(typer, &block.types)?;

@@ -1,5 +1,5 @@
 ghost use Rattle.typing.specs.Names.{type_names};
-ghost use Rattle.typing.specs.Outcomes.{Takes};
+ghost use Rattle.typing.specs.Outcomes.{TypingTakes};
 ghost use Rattle.typing.specs.Passing.{each};
 ghost use Rattle.typing.specs.Routines as spec;
 ghost use Rattle.declarations.specs.Known.{AreKnown, AreKnownTypes};
@@ -7,7 +7,7 @@ ghost use Rattle.declarations.specs.Known.{AreKnown, AreKnownTypes};
 use crate::denoters::denoted_type;
 use scopes::Denotation;
 use syntax_tree::TypeDefinition;
-use typed_tree::fault::TypeFault;
+use typed_tree::TypeFault;
 use typing::Typer;
 
 /// Passes the type definitions, in the order of the text.
@@ -16,7 +16,7 @@ pub(crate) fn declare_types(
     definitions: &[TypeDefinition],
 ) -> Result<(), TypeFault>
     requires known { AreKnownTypes definitions.now typer.old.regions }
-    ensures { Takes (each spec.type_definition definitions.now typer.old) result typer.new }
+    ensures { TypingTakes (each spec.type_definition definitions.now typer.old) result typer.new }
 {
     for definition in definitions {
         declare_type(typer, definition)?;
@@ -28,7 +28,7 @@ pub(crate) fn declare_types(
 #[tactic(auto, unfolding(typing::specs::Routines::type_definition))]
 fn declare_type(typer: &mut Typer, definition: &TypeDefinition) -> Result<(), TypeFault>
     requires known { AreKnown (type_names definition.now) typer.old.regions }
-    ensures { Takes (spec.type_definition definition.now typer.old) result typer.new }
+    ensures { TypingTakes (spec.type_definition definition.now typer.old) result typer.new }
 {
     let type_id = denoted_type(typer, &definition.denoter)?;
     typer.declare(&definition.name, Denotation::TypeName(type_id))

@@ -4,8 +4,7 @@ ghost use Rattle.domain.specs.GrowthLaws.{never_vacant};
 ghost use Rattle.domain.specs.Growths.{HasPair, behind, common, is_no_greater, is_within, joined, next, reach, stepped};
 ghost use Rattle.domain.specs.Interval.{HasMember, IsEnd, nearest_end};
 
-use crate::Domain;
-use crate::interval::{Interval, LIMIT};
+use crate::{Domain, Interval, LIMIT};
 
 /// What is known of a number that changes with the turns of a loop: behind `k` of them it lies between
 /// `first + first_step * k` and `last + last_step * k`. Each of the four is any number of 32 bits, so that sums of two

@@ -7,8 +7,7 @@ ghost use Rattle.domain.specs.Hull.{HasSet, IncludesSets, IsHull, hull_of, hull_
 ghost use Rattle.domain.specs.Hulls.{included-has_set, joined-has_set_left, joined-has_set_right, common-has_set};
 ghost use Rattle.domain.specs.Hulls.{never_vacant};
 
-use crate::Domain;
-use crate::interval::Interval;
+use crate::{Domain, Interval};
 use std::marker::Model;
 
 /// What is known of a set: the range in which all its members lie.

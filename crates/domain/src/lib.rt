@@ -13,6 +13,13 @@ pub mod hull;
 pub mod interval;
 pub mod versions;
 
+pub use facts::{Bound, Path, Span, Spans, Step};
+pub use growth::Growth;
+pub use hull::Hull;
+pub use interval::Interval;
+pub(crate) use interval::LIMIT;
+pub use versions::{Extension, Version};
+
 /// A set of abstract values, each of which stands for the concrete values that are its members.
 ///
 /// The members are known to contracts alone.

@@ -3,10 +3,9 @@ ghost use Rattle.reading.specs.Trees.{expr_outline};
 ghost use Rattle.expression_parser.specs.Built.{Builds, IsBuilt, links_outlines};
 
 use place::Place;
-use reading::refusal::Refusal;
 use std::alloc::Global;
 use syntax_tree::{Expr, Link, RelationalOperator, Sign};
-use token_cursor::kept::boxed;
+use token_cursor::{Read, boxed};
 
 /// A relation, by its left operand and what was read behind its operator.
 pub(crate) fn relation<'a>(
@@ -14,8 +13,8 @@ pub(crate) fn relation<'a>(
     left: Expr<'a>,
     operator: RelationalOperator,
     place: Place,
-    right: Result<Expr<'a>, Refusal>,
-) -> Result<Expr<'a>, Refusal>
+    right: Read<Expr<'a>>,
+) -> Read<Expr<'a>>
     ensures { Builds (form.relation (expr_outline left.entry) operator place) right.entry result }
 {
     let right = boxed(alloc, right)?;
@@ -30,11 +29,7 @@ pub(crate) fn relation<'a>(
 
 /// A first operand, alone or with the operators behind it.
 #[tactic(auto, using(crate::proofs::Built::built_expressions))]
-pub(crate) fn chain<'a>(
-    alloc: Global,
-    first: Expr<'a>,
-    rest: Vec<Link<'a>>,
-) -> Result<Expr<'a>, Refusal>
+pub(crate) fn chain<'a>(alloc: Global, first: Expr<'a>, rest: Vec<Link<'a>>) -> Read<Expr<'a>>
     ensures { IsBuilt (form.chain (expr_outline first.entry) (links_outlines rest.entry)) result }
 {
     if rest.is_empty() {
@@ -49,8 +44,8 @@ pub(crate) fn signed<'a>(
     alloc: Global,
     sign: Sign,
     place: Place,
-    term: Result<Expr<'a>, Refusal>,
-) -> Result<Expr<'a>, Refusal>
+    term: Read<Expr<'a>>,
+) -> Read<Expr<'a>>
     ensures { Builds (form.signed sign place) term.entry result }
 {
     let term = boxed(alloc, term)?;
@@ -58,11 +53,7 @@ pub(crate) fn signed<'a>(
 }
 
 /// `not`, and the operand that was read behind it.
-pub(crate) fn negated<'a>(
-    alloc: Global,
-    place: Place,
-    operand: Result<Expr<'a>, Refusal>,
-) -> Result<Expr<'a>, Refusal>
+pub(crate) fn negated<'a>(alloc: Global, place: Place, operand: Read<Expr<'a>>) -> Read<Expr<'a>>
     ensures { Builds (form.negated place) operand.entry result }
 {
     let operand = boxed(alloc, operand)?;
@@ -70,11 +61,7 @@ pub(crate) fn negated<'a>(
 }
 
 /// Parentheses, and the expression that was read between them.
-pub(crate) fn parenthesized<'a>(
-    alloc: Global,
-    open: Place,
-    inner: Result<Expr<'a>, Refusal>,
-) -> Result<Expr<'a>, Refusal>
+pub(crate) fn parenthesized<'a>(alloc: Global, open: Place, inner: Read<Expr<'a>>) -> Read<Expr<'a>>
     ensures { Builds (form.parenthesized «open») inner.entry result }
 {
     let inner = boxed(alloc, inner)?;

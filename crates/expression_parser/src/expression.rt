@@ -13,48 +13,35 @@ ghost use Rattle.expression_parser.specs.Selecting.{is_index, Selects, SelectsIn
 use crate::build;
 use lexer::token::{Kind, Symbol, Word};
 use place::Place;
-use reading::refusal::Refusal;
-use std::alloc::Global;
 use syntax_tree::{Actual, Designator, Expr, Link, Selector};
-use token_cursor::cursor::Cursor;
-use token_cursor::kept::put;
-use token_cursor::nesting::inside;
 use token_cursor::operator::Level;
+use token_cursor::{Cursor, Read, inside, put};
 
 /// An expression (6.7.1), below which `levels` levels are left.
 /// `expression = simple-expression [ relational-operator simple-expression ] .`
 #[cycle(expression)]
 #[tactic(auto, unfolding(reading::specs::Expressions::relation_of))]
-pub fn expression<'a>(
-    alloc: Global,
-    cursor: &mut Cursor<'_, 'a>,
-    levels: u32,
-) -> Result<Expr<'a>, Refusal>
+pub fn expression<'a>(cursor: &mut Cursor<'_, 'a>, levels: u32) -> Read<Expr<'a>>
     ensures { Makes expr_outline (spec.expression levels cursor.old.rest.now) result cursor.new }
 {
-    let left = chain(alloc, cursor, levels, Level::Sum)?;
+    let left = chain(cursor, levels, Level::Sum)?;
     let Some((operator, place)) = cursor.take_relational() else {
         return Ok(left);
     };
-    let right = chain(alloc, cursor, levels, Level::Sum);
-    build::relation(alloc, left, operator, place, right)
+    let right = chain(cursor, levels, Level::Sum);
+    build::relation(cursor.alloc, left, operator, place, right)
 }
 
 /// A simple expression or a term, by the level of its operators (6.7.1).
 /// `simple-expression, term = first-operand { operator operand } .`
 #[cycle(expression)]
 #[tactic(auto, unfolding(reading::specs::Expressions::chain))]
-fn chain<'a>(
-    alloc: Global,
-    cursor: &mut Cursor<'_, 'a>,
-    levels: u32,
-    level: Level,
-) -> Result<Expr<'a>, Refusal>
+fn chain<'a>(cursor: &mut Cursor<'_, 'a>, levels: u32, level: Level) -> Read<Expr<'a>>
     ensures { Makes expr_outline (chain_of level levels cursor.old.rest.now) result cursor.new }
 {
-    let first = first_operand(alloc, cursor, levels, level)?;
-    match links(alloc, cursor, levels, level) {
-        Ok(rest) => build::chain(alloc, first, rest),
+    let first = first_operand(cursor, levels, level)?;
+    match links(cursor, levels, level) {
+        Ok(rest) => build::chain(cursor.alloc, first, rest),
         Err(refusal) => {
             drop(first);
             Err(refusal)
@@ -65,51 +52,36 @@ fn chain<'a>(
 /// The first operand of a chain of this level.
 /// `first-operand = signed | factor .`
 #[cycle(expression)]
-fn first_operand<'a>(
-    alloc: Global,
-    cursor: &mut Cursor<'_, 'a>,
-    levels: u32,
-    level: Level,
-) -> Result<Expr<'a>, Refusal>
+fn first_operand<'a>(cursor: &mut Cursor<'_, 'a>, levels: u32, level: Level) -> Read<Expr<'a>>
     ensures { Makes expr_outline (level_spec.first_operand level levels cursor.old.rest.now) result cursor.new }
 {
     match level {
-        Level::Sum => signed(alloc, cursor, levels),
-        Level::Product => factor(alloc, cursor, levels),
+        Level::Sum => signed(cursor, levels),
+        Level::Product => factor(cursor, levels),
     }
 }
 
 /// The operand behind an operator of this level.
 /// `operand = term | factor .`
 #[cycle(expression)]
-fn operand<'a>(
-    alloc: Global,
-    cursor: &mut Cursor<'_, 'a>,
-    levels: u32,
-    level: Level,
-) -> Result<Expr<'a>, Refusal>
+fn operand<'a>(cursor: &mut Cursor<'_, 'a>, levels: u32, level: Level) -> Read<Expr<'a>>
     ensures { Makes expr_outline (level_spec.operand level levels cursor.old.rest.now) result cursor.new }
 {
     match level {
-        Level::Sum => chain(alloc, cursor, levels, Level::Product),
-        Level::Product => factor(alloc, cursor, levels),
+        Level::Sum => chain(cursor, levels, Level::Product),
+        Level::Product => factor(cursor, levels),
     }
 }
 
 /// The operators of this level that come next, each with the operand behind it.
 /// `links = { operator operand } .`
 #[cycle(expression)]
-fn links<'a>(
-    alloc: Global,
-    cursor: &mut Cursor<'_, 'a>,
-    levels: u32,
-    level: Level,
-) -> Result<Vec<Link<'a>>, Refusal>
+fn links<'a>(cursor: &mut Cursor<'_, 'a>, levels: u32, level: Level) -> Read<Vec<Link<'a>>>
     ensures { Makes links_turns (level_spec.links level levels cursor.old.rest.now) result cursor.new }
 {
-    let mut links = Vec::new(alloc);
+    let mut links = Vec::new(cursor.alloc);
     while let Some((operator, place)) = cursor.take_operator(level) {
-        let operand = operand(alloc, cursor, levels, level)?;
+        let operand = operand(cursor, levels, level)?;
         links.push(Link {
             operator,
             place,
@@ -122,20 +94,20 @@ fn links<'a>(
 /// `signed = [ sign ] term .`
 #[cycle(expression)]
 #[tactic(auto, unfolding(reading::specs::Expressions::signed))]
-fn signed<'a>(alloc: Global, cursor: &mut Cursor<'_, 'a>, levels: u32) -> Result<Expr<'a>, Refusal>
+fn signed<'a>(cursor: &mut Cursor<'_, 'a>, levels: u32) -> Read<Expr<'a>>
     ensures { Makes expr_outline (spec.signed (spec.term levels) cursor.old.rest.now) result cursor.new }
 {
     let Some((sign, place)) = cursor.take_sign() else {
-        return chain(alloc, cursor, levels, Level::Product);
+        return chain(cursor, levels, Level::Product);
     };
-    let term = chain(alloc, cursor, levels, Level::Product);
-    build::signed(alloc, sign, place, term)
+    let term = chain(cursor, levels, Level::Product);
+    build::signed(cursor.alloc, sign, place, term)
 }
 
 /// `factor = unsigned-integer | character-string | named | "not" negated | "[" set | parenthesized .`
 #[cycle(expression)]
 #[tactic(auto, using(crate::proofs::Built::built_expressions), unfolding(reading::specs::Expressions::any_factor))]
-fn factor<'a>(alloc: Global, cursor: &mut Cursor<'_, 'a>, levels: u32) -> Result<Expr<'a>, Refusal>
+fn factor<'a>(cursor: &mut Cursor<'_, 'a>, levels: u32) -> Read<Expr<'a>>
     ensures { Makes expr_outline (spec.factor levels cursor.old.rest.now) result cursor.new }
 {
     if let Some((value, place)) = cursor.take_number() {
@@ -145,14 +117,14 @@ fn factor<'a>(alloc: Global, cursor: &mut Cursor<'_, 'a>, levels: u32) -> Result
         return Ok(Expr::String { text, place });
     }
     if let Some(Kind::Identifier) = cursor.peek() {
-        return named(alloc, cursor, levels);
+        return named(cursor, levels);
     }
     if let Some(place) = cursor.take_word(Word::Not) {
-        return negated(alloc, cursor, levels, place);
+        return negated(cursor, levels, place);
     }
     match cursor.take_symbol(Symbol::OpenBracket) {
-        Some(open) => set(alloc, cursor, levels, open),
-        None => parenthesized(alloc, cursor, levels),
+        Some(open) => set(cursor, levels, open),
+        None => parenthesized(cursor, levels),
     }
 }
 
@@ -160,29 +132,24 @@ fn factor<'a>(alloc: Global, cursor: &mut Cursor<'_, 'a>, levels: u32) -> Result
 /// `negated = factor .`
 #[cycle(expression)]
 #[tactic(auto, unfolding(reading::specs::Expressions::negated))]
-fn negated<'a>(
-    alloc: Global,
-    cursor: &mut Cursor<'_, 'a>,
-    levels: u32,
-    place: Place,
-) -> Result<Expr<'a>, Refusal>
+fn negated<'a>(cursor: &mut Cursor<'_, 'a>, levels: u32, place: Place) -> Read<Expr<'a>>
     ensures { Makes expr_outline (spec.negated (expression_below levels) (factor_below levels) place
         cursor.old.rest.now) result cursor.new }
 {
     let levels = inside(levels, cursor.place())?;
-    let operand = factor(alloc, cursor, levels);
-    build::negated(alloc, place, operand)
+    let operand = factor(cursor, levels);
+    build::negated(cursor.alloc, place, operand)
 }
 
 /// A variable, a constant or the call of a function (6.5.1, 6.3, 6.7.3).
 /// `named = identifier ( selectors | actual-parameters ) .`
 #[cycle(expression)]
 #[tactic(auto, using(crate::proofs::Built::built_expressions), unfolding(reading::specs::Expressions::named))]
-fn named<'a>(alloc: Global, cursor: &mut Cursor<'_, 'a>, levels: u32) -> Result<Expr<'a>, Refusal>
+fn named<'a>(cursor: &mut Cursor<'_, 'a>, levels: u32) -> Read<Expr<'a>>
     ensures { Makes expr_outline (spec.named (expression_below levels) cursor.old.rest.now) result cursor.new }
 {
     let name = cursor.expect_name()?;
-    let (selectors, indexes) = selectors(alloc, cursor, levels)?;
+    let (selectors, indexes) = selectors(cursor, levels)?;
     if !selectors.is_empty() {
         return Ok(Expr::Component {
             name,
@@ -192,7 +159,7 @@ fn named<'a>(alloc: Global, cursor: &mut Cursor<'_, 'a>, levels: u32) -> Result<
     }
     drop(selectors);
     drop(indexes);
-    let actuals = actuals(alloc, cursor, levels)?;
+    let actuals = actuals(cursor, levels)?;
     if actuals.is_empty() {
         return Ok(Expr::Name(name));
     }
@@ -203,17 +170,16 @@ fn named<'a>(alloc: Global, cursor: &mut Cursor<'_, 'a>, levels: u32) -> Result<
 /// `selectors = { "[" index { "," index } "]" | "." identifier } .`
 #[cycle(expression)]
 pub fn selectors<'a>(
-    alloc: Global,
     cursor: &mut Cursor<'_, 'a>,
     levels: u32,
-) -> Result<(Vec<Selector<'a>>, Vec<Expr<'a>>), Refusal>
+) -> Read<(Vec<Selector<'a>>, Vec<Expr<'a>>)>
     ensures { Makes selectors_outlines (spec.selectors (expression_below levels) cursor.old.rest.now)
         result cursor.new }
 {
-    let mut selectors = Vec::new(alloc);
-    let mut indexes = Vec::new(alloc);
+    let mut selectors = Vec::new(cursor.alloc);
+    let mut indexes = Vec::new(cursor.alloc);
     let mut within = false;
-    while let Some(selector) = selector(alloc, cursor, levels, within, &mut indexes)? {
+    while let Some(selector) = selector(cursor, levels, within, &mut indexes)? {
         within = is_index(&selector);
         selectors.push(selector)?;
     }
@@ -225,23 +191,22 @@ pub fn selectors<'a>(
 /// `selector = "," index | [ "]" ] unjoined .`
 #[cycle(expression)]
 fn selector<'a>(
-    alloc: Global,
     cursor: &mut Cursor<'_, 'a>,
     levels: u32,
     within: bool,
     indexes: &mut Vec<Expr<'a>>,
-) -> Result<Option<Selector<'a>>, Refusal>
+) -> Read<Option<Selector<'a>>>
     ensures { Selects within (spec.selector (expression_below levels) within cursor.old.rest.now) result cursor.new
         indexes.old.items indexes.new.items }
 {
     if !within {
-        return unjoined(alloc, cursor, levels, within, indexes);
+        return unjoined(cursor, levels, within, indexes);
     }
     if let Some(place) = cursor.take_symbol(Symbol::Comma) {
-        return index_selector(alloc, cursor, levels, place, true, indexes);
+        return index_selector(cursor, levels, place, true, indexes);
     }
     cursor.expect_symbol(Symbol::CloseBracket)?;
-    unjoined(alloc, cursor, levels, within, indexes)
+    unjoined(cursor, levels, within, indexes)
 }
 
 /// The selector that comes next, if one does, where no index goes on in open brackets.
@@ -249,17 +214,16 @@ fn selector<'a>(
 #[cycle(expression)]
 #[tactic(auto, unfolding(reading::specs::Expressions::unjoined))]
 fn unjoined<'a>(
-    alloc: Global,
     cursor: &mut Cursor<'_, 'a>,
     levels: u32,
     within: bool,
     indexes: &mut Vec<Expr<'a>>,
-) -> Result<Option<Selector<'a>>, Refusal>
+) -> Read<Option<Selector<'a>>>
     ensures { Selects within (spec.unjoined (expression_below levels) within cursor.old.rest.now) result cursor.new
         indexes.old.items indexes.new.items }
 {
     if let Some(place) = cursor.take_symbol(Symbol::OpenBracket) {
-        return index_selector(alloc, cursor, levels, place, false, indexes);
+        return index_selector(cursor, levels, place, false, indexes);
     }
     let Some(_) = cursor.take_symbol(Symbol::Period) else {
         return Ok(None);
@@ -273,17 +237,16 @@ fn unjoined<'a>(
 /// `index-selector = index .`
 #[cycle(expression)]
 fn index_selector<'a>(
-    alloc: Global,
     cursor: &mut Cursor<'_, 'a>,
     levels: u32,
     place: Place,
     joined: bool,
     indexes: &mut Vec<Expr<'a>>,
-) -> Result<Option<Selector<'a>>, Refusal>
+) -> Read<Option<Selector<'a>>>
     ensures { SelectsIndex (spec.index (expression_below levels) cursor.old.rest.now) place joined result cursor.new
         indexes.old.items indexes.new.items }
 {
-    put(indexes, index(alloc, cursor, levels))?;
+    put(indexes, index(cursor, levels))?;
     Ok(Some(Selector::Index { place, joined }))
 }
 
@@ -291,57 +254,43 @@ fn index_selector<'a>(
 /// `index = below .`
 #[cycle(expression)]
 #[tactic(auto, unfolding(reading::specs::Expressions::index))]
-fn index<'a>(alloc: Global, cursor: &mut Cursor<'_, 'a>, levels: u32) -> Result<Expr<'a>, Refusal>
+fn index<'a>(cursor: &mut Cursor<'_, 'a>, levels: u32) -> Read<Expr<'a>>
     ensures { Makes expr_outline (spec.index (expression_below levels) cursor.old.rest.now) result cursor.new }
 {
     let place = cursor.place();
-    below(alloc, cursor, levels, place)
+    below(cursor, levels, place)
 }
 
 /// An expression that is a level of its own, which begins at a place.
 /// `below = expression .`
 #[cycle(expression)]
-fn below<'a>(
-    alloc: Global,
-    cursor: &mut Cursor<'_, 'a>,
-    levels: u32,
-    place: Option<Place>,
-) -> Result<Expr<'a>, Refusal>
+fn below<'a>(cursor: &mut Cursor<'_, 'a>, levels: u32, place: Option<Place>) -> Read<Expr<'a>>
     ensures { Makes expr_outline (expression_below levels place cursor.old.rest.now) result cursor.new }
 {
     let levels = inside(levels, place)?;
-    expression(alloc, cursor, levels)
+    expression(cursor, levels)
 }
 
 /// `parenthesized = "(" below ")" .`
 #[cycle(expression)]
 #[tactic(auto, unfolding(reading::specs::Expressions::parenthesized))]
-fn parenthesized<'a>(
-    alloc: Global,
-    cursor: &mut Cursor<'_, 'a>,
-    levels: u32,
-) -> Result<Expr<'a>, Refusal>
+fn parenthesized<'a>(cursor: &mut Cursor<'_, 'a>, levels: u32) -> Read<Expr<'a>>
     ensures { Makes expr_outline (spec.parenthesized (expression_below levels) cursor.old.rest.now) result cursor.new }
 {
     let open = cursor.expect_symbol(Symbol::OpenParenthesis)?;
-    let inner = below(alloc, cursor, levels, Some(open));
+    let inner = below(cursor, levels, Some(open));
     let inner = cursor.followed_by(inner, Kind::Symbol(Symbol::CloseParenthesis));
-    build::parenthesized(alloc, open, inner)
+    build::parenthesized(cursor.alloc, open, inner)
 }
 
 /// A set constructor (6.7.1) behind its opening bracket.
 /// `set = members .`
 #[cycle(expression)]
 #[tactic(auto, using(crate::proofs::Built::built_set), unfolding(reading::specs::Expressions::set))]
-fn set<'a>(
-    alloc: Global,
-    cursor: &mut Cursor<'_, 'a>,
-    levels: u32,
-    open: Place,
-) -> Result<Expr<'a>, Refusal>
+fn set<'a>(cursor: &mut Cursor<'_, 'a>, levels: u32, open: Place) -> Read<Expr<'a>>
     ensures { Makes expr_outline (spec.set (expression_below levels) «open» cursor.old.rest.now) result cursor.new }
 {
-    let (designators, members) = members(alloc, cursor, levels)?;
+    let (designators, members) = members(cursor, levels)?;
     Ok(Expr::Set {
         open,
         designators,
@@ -353,17 +302,13 @@ fn set<'a>(
 /// `members = [ member-list ] "]" .`
 #[cycle(expression)]
 #[tactic(auto, unfolding(reading::specs::Expressions::members))]
-fn members<'a>(
-    alloc: Global,
-    cursor: &mut Cursor<'_, 'a>,
-    levels: u32,
-) -> Result<(Vec<Designator>, Vec<Expr<'a>>), Refusal>
+fn members<'a>(cursor: &mut Cursor<'_, 'a>, levels: u32) -> Read<(Vec<Designator>, Vec<Expr<'a>>)>
     ensures { MakesMembers (spec.members (expression_below levels) cursor.old.rest.now) result cursor.new }
 {
     if let Some(_) = cursor.take_symbol(Symbol::CloseBracket) {
-        return Ok((Vec::new(alloc), Vec::new(alloc)));
+        return Ok((Vec::new(cursor.alloc), Vec::new(cursor.alloc)));
     }
-    let found = member_list(alloc, cursor, levels)?;
+    let found = member_list(cursor, levels)?;
     match cursor.expect_symbol(Symbol::CloseBracket) {
         Ok(_) => Ok(found),
         Err(refusal) => {
@@ -376,20 +321,16 @@ fn members<'a>(
 /// `member-list = member { "," member } .`
 #[cycle(expression)]
 fn member_list<'a>(
-    alloc: Global,
     cursor: &mut Cursor<'_, 'a>,
     levels: u32,
-) -> Result<(Vec<Designator>, Vec<Expr<'a>>), Refusal>
+) -> Read<(Vec<Designator>, Vec<Expr<'a>>)>
     ensures { MakesMembers (separated Symbol.Comma (spec.member (expression_below levels)) cursor.old.rest.now)
         result cursor.new }
 {
-    let mut designators = Vec::new(alloc);
-    let mut members = Vec::new(alloc);
+    let mut designators = Vec::new(cursor.alloc);
+    let mut members = Vec::new(cursor.alloc);
     loop {
-        put(
-            &mut designators,
-            member(alloc, cursor, levels, &mut members),
-        )?;
+        put(&mut designators, member(cursor, levels, &mut members))?;
         let Some(_) = cursor.take_symbol(Symbol::Comma) else {
             return Ok((designators, members));
         };
@@ -401,19 +342,18 @@ fn member_list<'a>(
 #[cycle(expression)]
 #[tactic(auto, unfolding(reading::specs::Expressions::member))]
 fn member<'a>(
-    alloc: Global,
     cursor: &mut Cursor<'_, 'a>,
     levels: u32,
     members: &mut Vec<Expr<'a>>,
-) -> Result<Designator, Refusal>
+) -> Read<Designator>
     ensures { MakesMember (spec.member (expression_below levels) cursor.old.rest.now) result cursor.new
         members.old.items members.new.items }
 {
-    put(members, index(alloc, cursor, levels))?;
+    put(members, index(cursor, levels))?;
     let Some(_) = cursor.take_symbol(Symbol::Range) else {
         return Ok(Designator::Single);
     };
-    put(members, index(alloc, cursor, levels))?;
+    put(members, index(cursor, levels))?;
     Ok(Designator::Range)
 }
 
@@ -421,34 +361,26 @@ fn member<'a>(
 /// `actual-parameters = [ "(" actual-list ")" ] .`
 #[cycle(expression)]
 #[tactic(auto, unfolding(reading::specs::Expressions::actuals))]
-pub fn actuals<'a>(
-    alloc: Global,
-    cursor: &mut Cursor<'_, 'a>,
-    levels: u32,
-) -> Result<Vec<Actual<'a>>, Refusal>
+pub fn actuals<'a>(cursor: &mut Cursor<'_, 'a>, levels: u32) -> Read<Vec<Actual<'a>>>
     ensures { Makes actuals_outlines (spec.actuals (expression_below levels) cursor.old.rest.now) result cursor.new }
 {
     let Some(_) = cursor.take_symbol(Symbol::OpenParenthesis) else {
-        return Ok(Vec::new(alloc));
+        return Ok(Vec::new(cursor.alloc));
     };
-    let actuals = actual_list(alloc, cursor, levels);
+    let actuals = actual_list(cursor, levels);
     cursor.followed_by(actuals, Kind::Symbol(Symbol::CloseParenthesis))
 }
 
 /// `actual-list = actual { "," actual } .`
 #[cycle(expression)]
-fn actual_list<'a>(
-    alloc: Global,
-    cursor: &mut Cursor<'_, 'a>,
-    levels: u32,
-) -> Result<Vec<Actual<'a>>, Refusal>
+fn actual_list<'a>(cursor: &mut Cursor<'_, 'a>, levels: u32) -> Read<Vec<Actual<'a>>>
     ensures { Makes actuals_outlines (separated Symbol.Comma (spec.actual (expression_below levels))
         cursor.old.rest.now) result cursor.new }
 {
     // Most lists have one parameter.
-    let mut actuals = Vec::with_capacity(alloc, 1)?;
+    let mut actuals = Vec::with_capacity(cursor.alloc, 1)?;
     loop {
-        put(&mut actuals, actual(alloc, cursor, levels))?;
+        put(&mut actuals, actual(cursor, levels))?;
         let Some(_) = cursor.take_symbol(Symbol::Comma) else {
             return Ok(actuals);
         };
@@ -458,18 +390,14 @@ fn actual_list<'a>(
 /// `actual = index [ ":" index ] .`
 #[cycle(expression)]
 #[tactic(auto, unfolding(reading::specs::Expressions::actual))]
-fn actual<'a>(
-    alloc: Global,
-    cursor: &mut Cursor<'_, 'a>,
-    levels: u32,
-) -> Result<Actual<'a>, Refusal>
+fn actual<'a>(cursor: &mut Cursor<'_, 'a>, levels: u32) -> Read<Actual<'a>>
     ensures { Makes actual_outline (spec.actual (expression_below levels) cursor.old.rest.now) result cursor.new }
 {
-    let value = index(alloc, cursor, levels)?;
+    let value = index(cursor, levels)?;
     let Some(_) = cursor.take_symbol(Symbol::Colon) else {
         return Ok(Actual { value, width: None });
     };
-    match index(alloc, cursor, levels) {
+    match index(cursor, levels) {
         Ok(width) => Ok(Actual {
             value,
             width: Some(width),

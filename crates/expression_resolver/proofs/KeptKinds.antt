@@ -55,7 +55,7 @@ use Rattle.typing.specs.Functions as Functions
 use Rattle.typing.specs.Expressions as Expressions
 use Rattle.typing.specs.Expressions.{Denoted, Written, WrittenActual, WrittenLink, entire, expression, written_actual, written_link}
 use Rattle.typing_rules.specs.Targets.{Copy}
-use Rattle.typing.proofs.Ways.{Goes, Walks, test_walks}
+use Rattle.typing.proofs.Ways.{WayGoes, Walks, test_walks}
 use Rattle.typing_rules.specs.Typed.{typed}
 use Rattle.expression_resolver.specs.Made.{fitted}
 use Rattle.expression_resolver.specs.Values.{AreTestedAlike, tested_as}
@@ -71,13 +71,13 @@ Keeps p = Walks Alike p
 pub then_keeps : {A B : Type 0} {p : Passing A} {f : A → Passing B} → Keeps p → ((a : A) → Keeps (f a)) → Keeps (p >>= f)
 then_keeps {A} {B} {p} {f} first rest = record { walks = λ old. by old (p old) (first.walks old) }
   where
-    behind : (old between : Passed) (look : Look.Look) (outcome : Checked (After B)) → Alike look old between → Goes Alike between outcome
-        → Goes Alike old (behind_marks look outcome)
+    behind : (old between : Passed) (look : Look.Look) (outcome : Checked (After B)) → Alike look old between → WayGoes Alike between outcome
+        → WayGoes Alike old (behind_marks look outcome)
     behind old between look (Ok b) before after = λ id. after id ∙ before id
     behind old between look (Err why) before after = tt
 
-    by : (old : Passed) (outcome : Checked (After A)) → Goes Alike old outcome
-        → Goes Alike old (and_then outcome (λ a. behind_marks a.look (f a.answer a.passed)))
+    by : (old : Passed) (outcome : Checked (After A)) → WayGoes Alike old outcome
+        → WayGoes Alike old (and_then outcome (λ a. behind_marks a.look (f a.answer a.passed)))
     by old (Ok a) so = behind old a.passed a.look (f a.answer a.passed) so ((rest a.answer).walks a.passed)
     by old (Err why) so = tt
 
@@ -88,7 +88,7 @@ module _ {A : Type 0} where
   pub fail_keeps : (why : TypeFault) → Keeps {A = A} (fail why)
   fail_keeps why = record { walks = λ old. tt }
 
-  checked_goes : (old : Passed) (checked : Checked A) → Goes Alike old (and_then checked (λ a. Ok (after a [] old)))
+  checked_goes : (old : Passed) (checked : Checked A) → WayGoes Alike old (and_then checked (λ a. Ok (after a [] old)))
   checked_goes old (Ok a) = λ id. refl
   checked_goes old (Err why) = tt
 
@@ -101,24 +101,24 @@ module _ {A : Type 0} where
 pub given_then : {A B : Type 0} (checked : Checked A) (f : A → Passing B) → ((a : A) → checked ≡ Ok a → Keeps (f a)) → Keeps (given checked >>= f)
 given_then {A} {B} checked f rest = record { walks = λ old. by old checked refl }
   where
-    behind : (old : Passed) (outcome : Checked (After B)) → Goes Alike old outcome → Goes Alike old (behind_marks [] outcome)
+    behind : (old : Passed) (outcome : Checked (After B)) → WayGoes Alike old outcome → WayGoes Alike old (behind_marks [] outcome)
     behind old (Ok b) so = so
     behind old (Err why) so = tt
 
     by : (old : Passed) (found : Checked A) → checked ≡ found
-        → Goes Alike old (and_then (and_then found (λ a. Ok (after a [] old))) (λ a. behind_marks a.look (f a.answer a.passed)))
+        → WayGoes Alike old (and_then (and_then found (λ a. Ok (after a [] old))) (λ a. behind_marks a.look (f a.answer a.passed)))
     by old (Ok a) is = behind old (f a old) ((rest a is).walks old)
     by old (Err why) is = tt
 
 -- ---- steps
 
 module _ {A : Type 0} (old : Passed) where
-  unless_goes : (test : Bool) (why : TypeFault) (a : After A) → AreTestedAlike old.types a.passed.types → Goes Alike old (if test then Err why else Ok a)
+  unless_goes : (test : Bool) (why : TypeFault) (a : After A) → AreTestedAlike old.types a.passed.types → WayGoes Alike old (if test then Err why else Ok a)
   unless_goes true why a so = tt
   unless_goes false why a so = so
 
   answered_goes : {B : Type 0} (checked : Checked B) (f : B → After A) → ((b : B) → AreTestedAlike old.types (f b).passed.types)
-      → Goes Alike old (and_then checked (λ b. Ok (f b)))
+      → WayGoes Alike old (and_then checked (λ b. Ok (f b)))
   answered_goes (Ok b) f so = so b
   answered_goes (Err why) f so = tt
 
@@ -158,7 +158,7 @@ pub wants_file_keeps : (one : File) (place : Place) → Keeps (Steps.wants_file 
 unfolding Steps.wants_file
 wants_file_keeps one place = record { walks = λ old. given_goes old (Steps.has_file one old) }
   where
-    given_goes : (old : Passed) (has : Bool) → Goes {A = Unit {0}} Alike old (if has then Ok (after tt [] old) else Err (fault.NotProgramParameter place))
+    given_goes : (old : Passed) (has : Bool) → WayGoes {A = Unit {0}} Alike old (if has then Ok (after tt [] old) else Err (fault.NotProgramParameter place))
     given_goes old true = λ id. refl
     given_goes old false = tt
 

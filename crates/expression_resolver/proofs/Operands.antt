@@ -76,13 +76,13 @@ answers a b is = let same : a ≡ b = cc in ap (λ x. x.answer) same
 -- ---- operators
 
 -- what an operator takes and gives, behind a left operand
-pub record Takes (operation : Dyadic) (first second gives : Scalar) : Type 0 where
+pub record OperatorTakes (operation : Dyadic) (first second gives : Scalar) : Type 0 where
   pub left : taken_left operation ≡ first
   pub right : taken_right operation ≡ second
   pub result : given operation ≡ gives
 
 abbrev ordinals : Dyadic → Type 0
-ordinals does = Takes does scalar.Ordinal scalar.Ordinal scalar.Ordinal
+ordinals does = OperatorTakes does scalar.Ordinal scalar.Ordinal scalar.Ordinal
 
 all_ordinals : (does : Dyadic) → taken_left does ≡ scalar.Ordinal → taken_right does ≡ scalar.Ordinal → given does ≡ scalar.Ordinal → ordinals does
 all_ordinals does left right result = record { left = left; right = right; result = result }
@@ -106,14 +106,14 @@ operation_takes op.And place old found look new is =
     subst ordinals (answers (after dyadic.And [] old) (after found look new) is) (all_ordinals dyadic.And refl refl refl)
 
 abbrev sets : Dyadic → Type 0
-sets does = Takes does scalar.Set scalar.Set scalar.Set
+sets does = OperatorTakes does scalar.Set scalar.Set scalar.Set
 
 -- the operation of an operator, and the result on two operands
 pub record Links (operation : Dyadic) (left right result : TypedValue) : Type 0 where
   pub left_scalar : is_scalar_value left ≡ true
   pub right_scalar : is_scalar_value right ≡ true
   pub result_scalar : is_scalar_value result ≡ true
-  pub takes : Takes operation (scalar_of left) (scalar_of right) (scalar_of result)
+  pub takes : OperatorTakes operation (scalar_of left) (scalar_of right) (scalar_of result)
 
 given_if : (test : Bool) (made result : TypedValue) → (if test then Some made else None) ≡ Some result → made ≡ result
 given_if true made result is = cc
@@ -173,7 +173,7 @@ module _ (operator : Operator) (place : Place) (old : Passed) (found : Dyadic) (
   links_of (typed.Whole id cells) right is gives = absurd cc
 
 -- an operator takes its operands
-pub takes_both : (operation : Dyadic) (left right result : Scalar) → Takes operation left right result → (a b : Held) → is_held left a ≡ true
+pub takes_both : (operation : Dyadic) (left right result : Scalar) → OperatorTakes operation left right result → (a b : Held) → is_held left a ≡ true
     → is_held right b ≡ true → held_where (is_held (taken_left operation) a && is_held (taken_right operation) b) (given operation) ≡ Some result
 takes_both operation left right result takes a b first second =
     ap₂ held_where
@@ -294,7 +294,7 @@ module _ (types : List Form) where
 pub record Relates (operation : Dyadic) (left right : TypedValue) : Type 0 where
   pub right_scalar : is_scalar_value right ≡ true
   pub none : whole_copy left ≡ None
-  pub takes : Takes operation (scalar_of left) (scalar_of right) scalar.Ordinal
+  pub takes : OperatorTakes operation (scalar_of left) (scalar_of right) scalar.Ordinal
 
 module _ (left right : TypedValue) where
   such_scalar : (wanted : Scalar) (value : TypedValue) → is_such wanted value ≡ true → is_scalar_value value ≡ true
@@ -317,7 +317,7 @@ module _ (left right : TypedValue) where
   such_whole wanted (typed.Text id length) is = absurd cc
   such_whole wanted (typed.Whole id cells) is = absurd cc
 
-  relates_such : (operation : Dyadic) (wanted other : Scalar) → Takes operation wanted other scalar.Ordinal → is_such wanted left ≡ true
+  relates_such : (operation : Dyadic) (wanted other : Scalar) → OperatorTakes operation wanted other scalar.Ordinal → is_such wanted left ≡ true
       → is_such other right ≡ true → Relates operation left right
   relates_such operation wanted other takes first second = record {
     right_scalar = such_scalar other right second;

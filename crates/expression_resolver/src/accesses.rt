@@ -11,16 +11,14 @@ ghost use Rattle.expression_resolver.specs.Accesses.{begun, named_variable, valu
 ghost use Rattle.expression_resolver.specs.Made.{IsSetOf, MakesBegun, MakesTyped, text_entered, typed_of};
 ghost use Rattle.expression_resolver.specs.Values.{look_value};
 
-use crate::typed::{Begun, Entered, Members, Selection, TypedExpr};
-use crate::value::Value;
+use crate::typed::{Begun, Entered, Members, Selection};
+use crate::{Lead, TypedExpr, Value};
 use place::Place;
 use std::alloc::Global;
 use syntax_tree::Name;
-use typed_tree::fault::TypeFault;
-use typed_tree::site::SiteKind;
-use typed_tree::tree::{Access, Base, Expr, Scalar, Selector};
+use typed_tree::{Access, Base, Expr, Scalar, Selector, SiteKind};
 use types::{SetBase, TypeId, TypeKind};
-use typing::{DenotedVariable, Typer};
+use typing::{DenotedVariable, Made, Typer};
 
 impl Selection {
     ghost use Rattle.expression_resolver.specs.Accesses.{IsBegunBy};
@@ -56,7 +54,7 @@ impl Members {
     }
 
     /// There is room for one more, of so many values.
-    pub(crate) fn make_room(&mut self, values: usize) -> Result<(), TypeFault>
+    pub(crate) fn make_room(&mut self, values: usize) -> Made<()>
         ensures designators { self.new.designators.items ≡ self.old.designators.items }
         ensures values { self.new.values.items ≡ self.old.values.items }
         ensures host { self.new.host ≡ self.old.host }
@@ -71,11 +69,7 @@ impl Members {
 }
 
 /// An expression is entered, behind the site that leads it.
-pub(crate) fn begin(
-    typer: &mut Typer,
-    lead: Option<SiteKind>,
-    place: Place,
-) -> Result<Begun, TypeFault>
+pub(crate) fn begin(typer: &mut Typer, lead: Lead, place: Place) -> Made<Begun>
     ensures { MakesBegun lead place typer.old result typer.new }
 {
     let site = typer.behind(lead, place)?;
@@ -103,7 +97,7 @@ pub(crate) fn text(
     site: Option<u32>,
     type_id: TypeId,
     characters: Vec<u8>,
-) -> Result<TypedExpr, TypeFault>
+) -> Made<TypedExpr>
     ensures { MakesTyped (text_entered site type_id characters.items typer.old) result typer.new }
 {
     let number = typer.enter()?;
@@ -121,25 +115,20 @@ pub(crate) fn set(begun: Begun, members: Members) -> TypedExpr
     ensures { IsSetOf begun members result }
 {
     let Begun { number, site } = begun;
-    let Members {
-        designators,
-        values,
-        host,
-    } = members;
-    let value = Value::Set {
-        base: SetBase { host, packed: None },
-        value: Expr::Set {
-            number,
-            designators,
-            members: values,
-        },
+    let (host, packed) = (members.host, None);
+    let base = SetBase { host, packed };
+    let value = Expr::Set {
+        number,
+        designators: members.designators,
+        members: members.values,
     };
+    let value = Value::Set { base, value };
     TypedExpr { value, site }
 }
 
 /// The variable, or the field of a record of a with, that a name denotes: K2 where it denotes none.
 #[tactic(auto, using(crate::proofs::Selecting::plain_variable))]
-pub fn named_variable(typer: &mut Typer, name: &Name) -> Result<DenotedVariable, TypeFault>
+pub fn named_variable(typer: &mut Typer, name: &Name) -> Made<DenotedVariable>
     ensures made { MakesVariable (named_variable name.now typer.old) result typer.new }
     ensures plain { IfOk result (λ made. index_count made.selectors.items ≡ 0) }
 {
@@ -154,8 +143,8 @@ pub(crate) fn enter(
     root: u32,
     base: Base,
     place: Place,
-    lead: Option<SiteKind>,
-) -> Result<Entered, TypeFault>
+    lead: Lead,
+) -> Made<Entered>
     ensures { MakesEntered (origin_by root base) (begun place lead typer.old) result typer.new }
 {
     let defined = typer.site(SiteKind::UndefinedVariable, place)?;
@@ -170,11 +159,7 @@ pub(crate) fn enter(
 }
 
 /// The field of a name of what was selected so far (6.5.3.3).
-pub(crate) fn select_field(
-    typer: &mut Typer,
-    name: &Name,
-    selection: &mut Selection,
-) -> Result<(), TypeFault>
+pub(crate) fn select_field(typer: &mut Typer, name: &Name, selection: &mut Selection) -> Made<()>
     ensures { SelectsField name.now typer.old selection.old result selection.new typer.new }
 {
     typer.pass(name.place);
@@ -193,23 +178,13 @@ pub(crate) fn accessed_value(typer: &Typer, entered: Entered, selection: Selecti
     requires counted { IsCounted selection }
     ensures { valued entered selection typer.now ≡ Ok (after (typed_of result) (look_value result.value) typer.now) }
 {
-    let Entered {
-        number,
-        root,
-        base,
-        defined,
-        site,
-    } = entered;
-    let Selection {
-        selectors,
-        indexes,
-        type_id,
-    } = selection;
+    let (defined, site) = (entered.defined, entered.site);
+    let (indexes, type_id) = (selection.indexes, selection.type_id);
     let access = Access {
-        number,
-        root,
-        base,
-        selectors,
+        number: entered.number,
+        root: entered.root,
+        base: entered.base,
+        selectors: selection.selectors,
     };
     let kind = typer.types().kind(type_id);
     if let Some(TypeKind::Structured) = kind {

@@ -19,28 +19,23 @@ ghost use Rattle.expression_resolver.specs.Accesses.{MakesSelection, MakesIndex,
 ghost use Rattle.expression_resolver.specs.Accesses.{MakesReached, component_of, entire_value, reached};
 ghost use Rattle.expression_resolver.specs.Values.{AreTestedAlike, are_held_actuals, look_value, tested_as, value_of};
 
-use crate::accesses::{
-    accessed_value, begin, constant, enter, named_variable, select_field, set, text,
-};
-use crate::forms::{first_place, fits, only};
+use crate::accesses::{accessed_value, begin, constant, enter, select_field, set, text};
+use crate::forms::{fits, only};
 use crate::input::{input_call, input_value};
 use crate::operators::{self, monadic};
 use crate::owned::made_beside;
-use crate::typed::{
-    Begun, Members, Reached, RightOperand, Selection, SitedMember, TypedCall, TypedExpr, TypedLinks,
-};
-use crate::value::Value;
+use crate::typed::{Begun, Members, RightOperand, Selection, SitedMember, TypedLinks};
+use crate::{Lead, Reached, TypedCall, TypedExpr, Value, first_place, named_variable};
 use place::Place;
 use scopes::Denotation;
-use syntax_tree as syntax;
-use typed_tree::fault::TypeFault;
-use typed_tree::site::SiteKind;
+use syntax_tree::{Actual, Designator, Expr, Link, Name, RelationalOperator, Selector};
 use typed_tree::tree::{
-    Access, Calculation, Call, Designator, Expr, Fitted, Link, Monadic, Passed, RangeTest, Scalar,
-    Selector, VariableKind, Whole,
+    self, Access, Calculation, Call, Fitted, Monadic, Passed, RangeTest, Scalar, VariableKind,
+    Whole,
 };
+use typed_tree::{SiteKind, TypeFault};
 use types::{ArrayElement, TypeId, TypeKind, TypeTable};
-use typing::{DenotedVariable, Typer, characters};
+use typing::{DenotedVariable, Made, Typer, characters};
 use typing_rules::{
     Typed, as_function, copying, fitting, may_index, may_relate, member_of, member_with_site,
     members_test, relation_behind, result_of, sign_operation, test_kind,
@@ -49,37 +44,33 @@ use typing_rules::{
 /// An expression, by the kind of its leading site.
 #[cycle(expressions)]
 #[tactic(auto, using(typing::proofs::Written::written_expressions))]
-pub fn expression(
-    typer: &mut Typer,
-    written: &syntax::Expr,
-    lead: Option<SiteKind>,
-) -> Result<TypedExpr, TypeFault>
+pub fn expression(typer: &mut Typer, written: &Expr, lead: Lead) -> Made<TypedExpr>
     ensures { MakesTyped ((spec.expression written.now).typing lead typer.old) result typer.new }
 {
     match written {
-        syntax::Expr::Number { value, place } => number(typer, *value, *place, lead),
-        syntax::Expr::Name(name) => {
+        Expr::Number { value, place } => number(typer, *value, *place, lead),
+        Expr::Name(name) => {
             let denotation = typer.find(name)?;
             if let Denotation::Routine { block, is_function } = denotation {
                 return function_value(typer, block, is_function, name.place, &[], lead);
             }
             denoted(typer, denotation, name.place, lead)
         }
-        syntax::Expr::Component {
+        Expr::Component {
             name,
             selectors,
             indexes,
         } => component(typer, name, selectors, indexes, lead),
-        syntax::Expr::String { text, place } => string(typer, text, *place, lead),
-        syntax::Expr::Set {
+        Expr::String { text, place } => string(typer, text, *place, lead),
+        Expr::Set {
             open,
             designators,
             members,
         } => constructed(typer, *open, designators, members, lead),
-        syntax::Expr::Call { name, actuals } => call(typer, name, actuals, lead),
-        syntax::Expr::Parenthesized { open, inner } => parenthesized(typer, *open, inner, lead),
-        syntax::Expr::Not { place, operand } => negation(typer, *place, operand, lead),
-        syntax::Expr::Signed { sign, place, term } => {
+        Expr::Call { name, actuals } => call(typer, name, actuals, lead),
+        Expr::Parenthesized { open, inner } => parenthesized(typer, *open, inner, lead),
+        Expr::Not { place, operand } => negation(typer, *place, operand, lead),
+        Expr::Signed { sign, place, term } => {
             prefixed(
                 typer,
                 TypeTable::INTEGER,
@@ -89,12 +80,12 @@ pub fn expression(
                 lead,
             )
         }
-        syntax::Expr::Chain { first, rest } => {
+        Expr::Chain { first, rest } => {
             let place = first_place(first);
             let left = expression(typer, first, lead)?;
             chain(typer, place, left, rest)
         }
-        syntax::Expr::Relation {
+        Expr::Relation {
             left,
             operator,
             place,
@@ -108,12 +99,7 @@ pub fn expression(
 
 // A number, which is at most maxint.
 #[tactic(auto, unfolding(typing::specs::Expressions::number))]
-fn number(
-    typer: &mut Typer,
-    value: u32,
-    place: Place,
-    lead: Option<SiteKind>,
-) -> Result<TypedExpr, TypeFault>
+fn number(typer: &mut Typer, value: u32, place: Place, lead: Lead) -> Made<TypedExpr>
     ensures { MakesTyped (spec.number value place lead typer.old) result typer.new }
 {
     typer.pass(place);
@@ -126,12 +112,7 @@ fn number(
 
 // A string (6.1.7).
 #[tactic(auto, unfolding(typing::specs::Expressions::string))]
-fn string(
-    typer: &mut Typer,
-    text: &[u8],
-    place: Place,
-    lead: Option<SiteKind>,
-) -> Result<TypedExpr, TypeFault>
+fn string(typer: &mut Typer, text: &[u8], place: Place, lead: Lead) -> Made<TypedExpr>
     ensures { MakesTyped (spec.string text.now place lead typer.old) result typer.new }
 {
     typer.pass(place);
@@ -142,33 +123,23 @@ fn string(
 
 // The value of a string: one character is a constant of type char, more are a string of a type of its own.
 #[tactic(auto, unfolding(typing::specs::Expressions::spelled))]
-fn spelled(
-    typer: &mut Typer,
-    place: Place,
-    site: Option<u32>,
-    characters: Vec<u8>,
-) -> Result<TypedExpr, TypeFault>
-    ensures { MakesTyped (spec.spelled place site characters.items typer.old) result typer.new }
+fn spelled(typer: &mut Typer, place: Place, site: Option<u32>, spelling: Vec<u8>) -> Made<TypedExpr>
+    ensures { MakesTyped (spec.spelled place site spelling.items typer.old) result typer.new }
 {
-    if let [character] = characters.as_slice() {
+    if let [character] = spelling.as_slice() {
         let value = i32::from(*character);
         let number = typer.enter()?;
         let begun = Begun { number, site };
         return Ok(constant(begun, value, TypeTable::CHAR));
     }
-    let type_id = typer.string_type(place, characters.len())?;
-    text(typer, site, type_id, characters)
+    let type_id = typer.string_type(place, spelling.len())?;
+    text(typer, site, type_id, spelling)
 }
 
 // What a name denotes that is no routine of the program, as an expression: a constant, a variable, or a field of a
 // record of a with.
 #[tactic(auto, unfolding(typing::specs::Expressions::denoted))]
-fn denoted(
-    typer: &mut Typer,
-    denotation: Denotation,
-    place: Place,
-    lead: Option<SiteKind>,
-) -> Result<TypedExpr, TypeFault>
+fn denoted(typer: &mut Typer, denotation: Denotation, place: Place, lead: Lead) -> Made<TypedExpr>
     requires { is_alone denotation ≡ true }
     ensures { MakesTyped (spec.denoted denotation place lead typer.old) result typer.new }
 {
@@ -195,12 +166,7 @@ fn denoted(
 }
 
 // The value of a variable, or of a field of a record of a with.
-fn entire(
-    typer: &mut Typer,
-    denotation: Denotation,
-    place: Place,
-    lead: Option<SiteKind>,
-) -> Result<TypedExpr, TypeFault>
+fn entire(typer: &mut Typer, denotation: Denotation, place: Place, lead: Lead) -> Made<TypedExpr>
     ensures { MakesTyped (entire_value denotation place lead typer.old) result typer.new }
 {
     let DenotedVariable {
@@ -220,11 +186,11 @@ fn entire(
 #[tactic(auto, unfolding(typing::specs::Expressions::component))]
 fn component(
     typer: &mut Typer,
-    name: &syntax::Name,
-    selectors: &[syntax::Selector],
-    indexes: &[syntax::Expr],
-    lead: Option<SiteKind>,
-) -> Result<TypedExpr, TypeFault>
+    name: &Name,
+    selectors: &[Selector],
+    indexes: &[Expr],
+    lead: Lead,
+) -> Made<TypedExpr>
     ensures { MakesTyped (spec.component name.now selectors.now (map spec.expression indexes.now) lead typer.old) result
         typer.new }
 {
@@ -246,11 +212,11 @@ fn component(
 #[cycle(expressions)]
 fn selected(
     typer: &mut Typer,
-    before: Vec<Selector>,
+    before: Vec<tree::Selector>,
     type_id: TypeId,
-    selectors: &[syntax::Selector],
-    indexes: &[syntax::Expr],
-) -> Result<Selection, TypeFault>
+    selectors: &[Selector],
+    indexes: &[Expr],
+) -> Made<Selection>
     requires plain { index_count before.items ≡ 0 }
     ensures made { MakesSelection (spec.selected before.items type_id selectors.now (map spec.expression indexes.now)
         typer.old) result typer.new }
@@ -267,15 +233,15 @@ fn selected(
 #[cycle(expressions)]
 fn select(
     typer: &mut Typer,
-    selector: &syntax::Selector,
-    indexes: &[syntax::Expr],
+    selector: &Selector,
+    indexes: &[Expr],
     selection: &mut Selection,
-) -> Result<(), TypeFault>
+) -> Made<()>
     ensures { SelectsOne selector.now indexes.now typer.old selection.old result selection.new typer.new }
 {
     match selector {
-        syntax::Selector::Field(name) => select_field(typer, name, selection),
-        syntax::Selector::Index { place, .. } => {
+        Selector::Field(name) => select_field(typer, name, selection),
+        Selector::Index { place, .. } => {
             let Some(index) = indexes.get(selection.indexes.len()) else {
                 return Err(TypeFault::Mismatch(*place));
             };
@@ -289,9 +255,9 @@ fn select(
 fn select_element(
     typer: &mut Typer,
     place: Place,
-    written: &syntax::Expr,
+    written: &Expr,
     selection: &mut Selection,
-) -> Result<(), TypeFault>
+) -> Made<()>
     ensures { SelectsElement place (spec.expression written.now) typer.old selection.old result selection.new
         typer.new }
 {
@@ -304,7 +270,9 @@ fn select_element(
         range: element.range,
     };
     let cells = element.cells;
-    selection.selectors.push(Selector::Element { fits, cells })?;
+    selection
+        .selectors
+        .push(tree::Selector::Element { fits, cells })?;
     selection.indexes.push(index)?;
     selection.type_id = element.type_id;
     Ok(())
@@ -313,11 +281,7 @@ fn select_element(
 // An index of elements, by the id of its site, which stands before those of its first token.
 #[cycle(expressions)]
 #[tactic(auto, unfolding(typing::specs::Expressions::index))]
-fn index(
-    typer: &mut Typer,
-    element: ArrayElement,
-    written: &syntax::Expr,
-) -> Result<(u32, Expr), TypeFault>
+fn index(typer: &mut Typer, element: ArrayElement, written: &Expr) -> Made<(u32, tree::Expr)>
     ensures made { MakesIndex (spec.index element (spec.expression written.now) typer.old) result typer.new }
     ensures held { IfOk result (λ made. is_ordinal_expr made.1 ≡ true) }
 {
@@ -330,12 +294,7 @@ fn index(
 
 #[cycle(expressions)]
 #[tactic(auto, unfolding(typing::specs::Expressions::parenthesized))]
-fn parenthesized(
-    typer: &mut Typer,
-    bracket: Place,
-    inner: &syntax::Expr,
-    lead: Option<SiteKind>,
-) -> Result<TypedExpr, TypeFault>
+fn parenthesized(typer: &mut Typer, bracket: Place, inner: &Expr, lead: Lead) -> Made<TypedExpr>
     ensures { MakesTyped (spec.parenthesized bracket (spec.expression inner.now) lead typer.old) result typer.new }
 {
     typer.pass(bracket);
@@ -347,12 +306,7 @@ fn parenthesized(
 
 // `not` and its operand (6.7.2.3).
 #[cycle(expressions)]
-fn negation(
-    typer: &mut Typer,
-    place: Place,
-    operand: &syntax::Expr,
-    lead: Option<SiteKind>,
-) -> Result<TypedExpr, TypeFault>
+fn negation(typer: &mut Typer, place: Place, operand: &Expr, lead: Lead) -> Made<TypedExpr>
     ensures { MakesTyped (spec.negation place (spec.expression operand.now) lead typer.old) result typer.new }
 {
     let operation = Monadic::Plain(Calculation::Complement);
@@ -367,9 +321,9 @@ fn prefixed(
     type_id: TypeId,
     operation: Monadic,
     place: Place,
-    operand: &syntax::Expr,
-    lead: Option<SiteKind>,
-) -> Result<TypedExpr, TypeFault>
+    operand: &Expr,
+    lead: Lead,
+) -> Made<TypedExpr>
     ensures { MakesTyped (spec.prefixed type_id operation place (spec.expression operand.now) lead typer.old) result
         typer.new }
 {
@@ -381,12 +335,7 @@ fn prefixed(
 
 // A chain of operators behind its first operand, which begins at the place.
 #[cycle(expressions)]
-fn chain(
-    typer: &mut Typer,
-    place: Place,
-    left: TypedExpr,
-    rest: &[syntax::Link],
-) -> Result<TypedExpr, TypeFault>
+fn chain(typer: &mut Typer, place: Place, left: TypedExpr, rest: &[Link]) -> Made<TypedExpr>
     ensures { MakesTyped (behind_marks (Begins ∷ look_value left.value) (spec.chain_behind place (map spec.written_link
         rest.now) (typed_of left) typer.old)) result typer.new }
 {
@@ -396,7 +345,7 @@ fn chain(
 
 // The operators of a chain, behind what stands to their left.
 #[cycle(expressions)]
-fn links(typer: &mut Typer, left: Typed, rest: &[syntax::Link]) -> Result<TypedLinks, TypeFault>
+fn links(typer: &mut Typer, left: Typed, rest: &[Link]) -> Made<TypedLinks>
     ensures made { MakesLinks (spec.links left (map spec.written_link rest.now) typer.old) result typer.new }
     ensures held { IfOk result (λ made. AreHeldLinks left.value made.typed.value made.links.items) }
 {
@@ -413,7 +362,7 @@ fn links(typer: &mut Typer, left: Typed, rest: &[syntax::Link]) -> Result<TypedL
 // An operator and its right operand, and what they make of what stands to their left.
 #[cycle(expressions)]
 #[tactic(auto, using(typing::proofs::Written::typing_link), unfolding(typing::specs::Expressions::link))]
-fn link(typer: &mut Typer, left: Typed, written: &syntax::Link) -> Result<(Link, Typed), TypeFault>
+fn link(typer: &mut Typer, left: Typed, written: &Link) -> Made<(tree::Link, Typed)>
     ensures made { MakesLink (spec.written_link written.now left typer.old) result typer.new }
     ensures held { IfOk result (λ made. AreHeldLinks left.value (made.1).value (made.0 ∷ [])) }
 {
@@ -425,7 +374,7 @@ fn link(typer: &mut Typer, left: Typed, written: &syntax::Link) -> Result<(Link,
         TypeFault::Mismatch(place),
     );
     let (value, operand) = right.scalar_with(value)?;
-    let link = Link {
+    let link = tree::Link {
         number,
         operation,
         operand,
@@ -439,10 +388,10 @@ fn link(typer: &mut Typer, left: Typed, written: &syntax::Link) -> Result<(Link,
 fn relation(
     typer: &mut Typer,
     left: TypedExpr,
-    operator: syntax::RelationalOperator,
+    operator: RelationalOperator,
     place: Place,
-    right: &syntax::Expr,
-) -> Result<TypedExpr, TypeFault>
+    right: &Expr,
+) -> Made<TypedExpr>
     ensures { MakesTyped (behind_marks (Begins ∷ look_value left.value) (spec.relation_behind operator place
         (spec.expression right.now) (typed_of left) typer.old)) result typer.new }
 {
@@ -456,10 +405,10 @@ fn relation(
 fn right_operand(
     typer: &mut Typer,
     left: Typed,
-    operator: syntax::RelationalOperator,
+    operator: RelationalOperator,
     place: Place,
-    written: &syntax::Expr,
-) -> Result<RightOperand, TypeFault>
+    written: &Expr,
+) -> Made<RightOperand>
     ensures made { MakesRight left (spec.relation_behind operator place (spec.expression written.now) left typer.old)
         result typer.new }
     ensures related { IfOk result (λ made. relates made.operation left.value (value_of made.operand.value) ≡ true) }
@@ -484,10 +433,10 @@ fn right_operand(
 fn constructed(
     typer: &mut Typer,
     bracket: Place,
-    designators: &[syntax::Designator],
-    values: &[syntax::Expr],
-    lead: Option<SiteKind>,
-) -> Result<TypedExpr, TypeFault>
+    designators: &[Designator],
+    values: &[Expr],
+    lead: Lead,
+) -> Made<TypedExpr>
     ensures { MakesTyped (spec.constructed bracket (members_of designators.now (map spec.expression values.now)) lead
         typer.old) result typer.new }
 {
@@ -499,11 +448,7 @@ fn constructed(
 
 // The members of a set constructor, one after another.
 #[cycle(expressions)]
-fn members(
-    typer: &mut Typer,
-    designators: &[syntax::Designator],
-    values: &[syntax::Expr],
-) -> Result<Members, TypeFault>
+fn members(typer: &mut Typer, designators: &[Designator], values: &[Expr]) -> Made<Members>
     ensures made { MakesMembers (spec.members [] None (members_of designators.now (map spec.expression values.now))
         typer.old) result typer.new }
     ensures counted { IfOk result (λ made. members_wanted made.designators.items ≡ length made.values.items) }
@@ -515,8 +460,8 @@ fn members(
             return Ok(made);
         };
         match designator {
-            syntax::Designator::Single => single(typer, first, &mut made)?,
-            syntax::Designator::Range => {
+            Designator::Single => single(typer, first, &mut made)?,
+            Designator::Range => {
                 let Some(last) = values.get(taken + 1) else {
                     return Ok(made);
                 };
@@ -531,43 +476,33 @@ fn members(
 // A member by its value.
 #[cycle(expressions)]
 #[tactic(auto, unfolding(typing::specs::Expressions::member))]
-fn single(typer: &mut Typer, written: &syntax::Expr, made: &mut Members) -> Result<(), TypeFault>
+fn single(typer: &mut Typer, written: &Expr, made: &mut Members) -> Made<()>
     ensures { TakesMember 1 (spec.member made.old.host (spec.expression written.now) None typer.old) made.old result
         made.new typer.new }
 {
     made.make_room(1)?;
-    let SitedMember {
-        site,
-        type_id,
-        value,
-    } = first_member(typer, made.host, written)?;
-    made.values.push_reserved(value);
-    made.designators.push_reserved(Designator::Single { site });
-    made.host = Some(type_id);
+    let first = first_member(typer, made.host, written)?;
+    made.values.push_reserved(first.value);
+    let site = first.site;
+    made.designators
+        .push_reserved(tree::Designator::Single { site });
+    made.host = Some(first.type_id);
     Ok(())
 }
 
 // Members by the first and the last of their values.
 #[cycle(expressions)]
-fn range(
-    typer: &mut Typer,
-    first: SitedMember,
-    last: &syntax::Expr,
-    made: &mut Members,
-) -> Result<(), TypeFault>
+fn range(typer: &mut Typer, first: SitedMember, last: &Expr, made: &mut Members) -> Made<()>
     ensures { TakesMember 2 (range_behind first (spec.expression last.now) typer.old) made.old result made.new
         typer.new }
 {
     made_beside!(made.make_room(2), first);
-    let SitedMember {
-        site,
-        type_id,
-        value,
-    } = first;
-    let (type_id, last) = made_beside!(last_member(typer, Some(type_id), last), value);
-    made.values.push_reserved(value);
+    let site = first.site;
+    let (type_id, last) = made_beside!(last_member(typer, Some(first.type_id), last), first);
+    made.values.push_reserved(first.value);
     made.values.push_reserved(last);
-    made.designators.push_reserved(Designator::Range { site });
+    made.designators
+        .push_reserved(tree::Designator::Range { site });
     made.host = Some(type_id);
     Ok(())
 }
@@ -576,11 +511,7 @@ fn range(
 // is no ordinal of that type.
 #[cycle(expressions)]
 #[tactic(auto, unfolding(typing::specs::Expressions::first_member))]
-fn first_member(
-    typer: &mut Typer,
-    host: Option<TypeId>,
-    written: &syntax::Expr,
-) -> Result<SitedMember, TypeFault>
+fn first_member(typer: &mut Typer, host: Option<TypeId>, written: &Expr) -> Made<SitedMember>
     ensures { MakesFirst (spec.first_member host (spec.expression written.now) typer.old) result typer.new }
 {
     let made = expression(typer, written, Some(SiteKind::SetMember))?;
@@ -599,8 +530,8 @@ fn first_member(
 fn last_member(
     typer: &mut Typer,
     host: Option<TypeId>,
-    written: &syntax::Expr,
-) -> Result<(TypeId, Expr), TypeFault>
+    written: &Expr,
+) -> Made<(TypeId, tree::Expr)>
     ensures made { MakesLast (spec.last_member host (spec.expression written.now) typer.old) result typer.new }
     ensures held { IfOk result (λ made. is_ordinal_expr made.1 ≡ true) }
 {
@@ -612,12 +543,7 @@ fn last_member(
 // The call of a function: of one that the program declares, or of a required one.
 #[cycle(expressions)]
 #[tactic(auto, unfolding(typing::specs::Expressions::call))]
-fn call(
-    typer: &mut Typer,
-    name: &syntax::Name,
-    actuals: &[syntax::Actual],
-    lead: Option<SiteKind>,
-) -> Result<TypedExpr, TypeFault>
+fn call(typer: &mut Typer, name: &Name, actuals: &[Actual], lead: Lead) -> Made<TypedExpr>
     ensures { MakesTyped (spec.call name.now (map spec.written_actual actuals.now) lead typer.old) result typer.new }
 {
     let denotation = typer.find(name)?;
@@ -638,10 +564,10 @@ fn call(
 fn required_call(
     typer: &mut Typer,
     denotation: Denotation,
-    name: &syntax::Name,
-    actuals: &[syntax::Actual],
-    lead: Option<SiteKind>,
-) -> Result<TypedExpr, TypeFault>
+    name: &Name,
+    actuals: &[Actual],
+    lead: Lead,
+) -> Made<TypedExpr>
     ensures { MakesTyped (spec.required_call denotation name.now (map spec.written_actual actuals.now) lead typer.old)
         result typer.new }
 {
@@ -664,9 +590,9 @@ fn function_value(
     block: u32,
     is_function: bool,
     place: Place,
-    actuals: &[syntax::Actual],
-    lead: Option<SiteKind>,
-) -> Result<TypedExpr, TypeFault>
+    actuals: &[Actual],
+    lead: Lead,
+) -> Made<TypedExpr>
     ensures { MakesTyped (spec.function_value block is_function place (map spec.written_actual actuals.now) lead
         typer.old) result typer.new }
 {
@@ -677,7 +603,7 @@ fn function_value(
     let site = typer.behind(lead, place)?;
     let made = routine_call(typer, true, block, place, actuals)?;
     let type_id = made_beside!(result_type(typer, place, made.root), made);
-    let value = Expr::Call {
+    let value = tree::Expr::Call {
         call: made.call,
         actuals: made.actuals,
     };
@@ -689,7 +615,7 @@ fn function_value(
 
 // The type of a function's result, by its root: the host type.
 #[tactic(auto)]
-fn result_type(typer: &Typer, place: Place, root: Option<u32>) -> Result<TypeId, TypeFault>
+fn result_type(typer: &Typer, place: Place, root: Option<u32>) -> Made<TypeId>
     ensures { IsHostOf (result_variable root typer.now) place result typer.now }
 {
     let Some(root) = root else {
@@ -710,8 +636,8 @@ pub fn routine_call(
     is_function: bool,
     block: u32,
     place: Place,
-    actuals: &[syntax::Actual],
-) -> Result<TypedCall, TypeFault>
+    actuals: &[Actual],
+) -> Made<TypedCall>
     ensures { MakesCall is_function (spec.routine_call is_function block place (map spec.written_actual actuals.now)
         typer.old) result typer.new }
 {
@@ -731,11 +657,7 @@ pub fn routine_call(
 
 // Actual parameters for as many formal ones, by the roots of these.
 #[cycle(expressions)]
-fn actuals_for(
-    typer: &mut Typer,
-    roots: &[u32],
-    actuals: &[syntax::Actual],
-) -> Result<Vec<Passed>, TypeFault>
+fn actuals_for(typer: &mut Typer, roots: &[u32], actuals: &[Actual]) -> Made<Vec<Passed>>
     requires { length actuals.now ≡ length roots.now }
     ensures counted { IfOk result (λ made. length made.items ≡ length actuals.now) }
     ensures held { IfOk result (λ made. are_held_actuals made.items ≡ true) }
@@ -752,7 +674,7 @@ fn actuals_for(
 // An actual parameter, by what the formal one is, which has this root.
 #[cycle(expressions)]
 #[tactic(auto, unfolding(typing::specs::Expressions::actual))]
-fn actual(typer: &mut Typer, root: u32, written: &syntax::Actual) -> Result<Passed, TypeFault>
+fn actual(typer: &mut Typer, root: u32, written: &Actual) -> Made<Passed>
     ensures made { MakesPassed (spec.actual (spec.written_actual written.now) root) typer.old result typer.new }
     ensures held { IfOk result (λ made. is_held_passed made ≡ true) }
 {
@@ -774,30 +696,26 @@ fn actual(typer: &mut Typer, root: u32, written: &syntax::Actual) -> Result<Pass
 // A variable for a variable parameter of a type (6.6.3.3): K2 at the first token of what is none.
 #[cycle(expressions)]
 #[tactic(auto, using(typing::proofs::Written::written_expressions), unfolding(typing::specs::Expressions::no_variable))]
-fn passed_variable(
-    typer: &mut Typer,
-    wanted: TypeId,
-    written: &syntax::Expr,
-) -> Result<Passed, TypeFault>
+fn passed_variable(typer: &mut Typer, wanted: TypeId, written: &Expr) -> Made<Passed>
     ensures made { MakesPassed ((spec.expression written.now).passing wanted) typer.old result typer.new }
     ensures held { IfOk result (λ made. is_held_passed made ≡ true) }
 {
     match written {
-        syntax::Expr::Name(name) => passed_access(typer, wanted, name, &[], &[]),
-        syntax::Expr::Component {
+        Expr::Name(name) => passed_access(typer, wanted, name, &[], &[]),
+        Expr::Component {
             name,
             selectors,
             indexes,
         } => passed_access(typer, wanted, name, selectors, indexes),
-        syntax::Expr::Number { place, .. }
-        | syntax::Expr::String { place, .. }
-        | syntax::Expr::Not { place, .. }
-        | syntax::Expr::Signed { place, .. } => Err(TypeFault::NotVariable(*place)),
-        syntax::Expr::Set { open, .. } => Err(TypeFault::NotVariable(*open)),
-        syntax::Expr::Call { name, .. } => Err(TypeFault::NotVariable(name.place)),
-        syntax::Expr::Parenthesized { open, .. } => Err(TypeFault::NotVariable(*open)),
-        syntax::Expr::Chain { first, .. } => Err(TypeFault::NotVariable(first_place(first))),
-        syntax::Expr::Relation { left, .. } => Err(TypeFault::NotVariable(first_place(left))),
+        Expr::Number { place, .. }
+        | Expr::String { place, .. }
+        | Expr::Not { place, .. }
+        | Expr::Signed { place, .. } => Err(TypeFault::NotVariable(*place)),
+        Expr::Set { open, .. } => Err(TypeFault::NotVariable(*open)),
+        Expr::Call { name, .. } => Err(TypeFault::NotVariable(name.place)),
+        Expr::Parenthesized { open, .. } => Err(TypeFault::NotVariable(*open)),
+        Expr::Chain { first, .. } => Err(TypeFault::NotVariable(first_place(first))),
+        Expr::Relation { left, .. } => Err(TypeFault::NotVariable(first_place(left))),
     }
 }
 
@@ -807,10 +725,10 @@ fn passed_variable(
 fn passed_access(
     typer: &mut Typer,
     wanted: TypeId,
-    name: &syntax::Name,
-    selectors: &[syntax::Selector],
-    indexes: &[syntax::Expr],
-) -> Result<Passed, TypeFault>
+    name: &Name,
+    selectors: &[Selector],
+    indexes: &[Expr],
+) -> Made<Passed>
     ensures made { MakesPassed (spec.passed_variable name.now selectors.now (map spec.expression indexes.now) wanted)
         typer.old result typer.new }
     ensures held { IfOk result (λ made. is_held_passed made ≡ true) }
@@ -837,9 +755,9 @@ pub fn reach(
     typer: &mut Typer,
     place: Place,
     variable: DenotedVariable,
-    selectors: &[syntax::Selector],
-    indexes: &[syntax::Expr],
-) -> Result<Reached, TypeFault>
+    selectors: &[Selector],
+    indexes: &[Expr],
+) -> Made<Reached>
     requires plain { index_count variable.selectors.items ≡ 0 }
     ensures made { MakesReached (reached place (denoted_of variable) selectors.now (map spec.expression indexes.now)
         typer.old) result typer.new }
@@ -856,9 +774,9 @@ pub fn reach(
 pub fn access(
     typer: &mut Typer,
     variable: DenotedVariable,
-    selectors: &[syntax::Selector],
-    indexes: &[syntax::Expr],
-) -> Result<Reached, TypeFault>
+    selectors: &[Selector],
+    indexes: &[Expr],
+) -> Made<Reached>
     requires plain { index_count variable.selectors.items ≡ 0 }
     ensures made { MakesReached (component_of (denoted_of variable) selectors.now (map spec.expression indexes.now)
         typer.old) result typer.new }
@@ -894,11 +812,7 @@ pub fn access(
 // A value for a value parameter of a type (6.6.3.2).
 #[cycle(expressions)]
 #[tactic(auto, unfolding(typing::specs::Expressions::passed_value))]
-fn passed_value(
-    typer: &mut Typer,
-    type_id: TypeId,
-    written: &syntax::Expr,
-) -> Result<Passed, TypeFault>
+fn passed_value(typer: &mut Typer, type_id: TypeId, written: &Expr) -> Made<Passed>
     ensures made { MakesPassed (spec.passed_value type_id (spec.expression written.now)) typer.old result typer.new }
     ensures held { IfOk result (λ made. is_held_passed made ≡ true) }
 {
@@ -913,11 +827,7 @@ fn passed_value(
 // A value of a set type, whose site is the leading one.
 #[cycle(expressions)]
 #[tactic(auto, using(crate::proofs::HeldForms::held_passed_value), unfolding(typing::specs::Expressions::passed_set))]
-fn passed_set(
-    typer: &mut Typer,
-    type_id: TypeId,
-    written: &syntax::Expr,
-) -> Result<Passed, TypeFault>
+fn passed_set(typer: &mut Typer, type_id: TypeId, written: &Expr) -> Made<Passed>
     requires { tested_as (kind_of typer.old.types type_id) ≡ scalar.Set }
     ensures made { MakesPassed (spec.passed_set type_id (spec.expression written.now)) typer.old result typer.new }
     ensures held { IfOk result (λ made. is_held_passed made ≡ true) }
@@ -931,11 +841,7 @@ fn passed_set(
 // A value of an ordinal type.
 #[cycle(expressions)]
 #[tactic(auto, using(crate::proofs::HeldForms::held_passed_value))]
-fn passed_ordinal(
-    typer: &mut Typer,
-    type_id: TypeId,
-    written: &syntax::Expr,
-) -> Result<Passed, TypeFault>
+fn passed_ordinal(typer: &mut Typer, type_id: TypeId, written: &Expr) -> Made<Passed>
     requires { tested_as (kind_of typer.old.types type_id) ≡ scalar.Ordinal }
     ensures made { MakesPassed (spec.passed_ordinal type_id (spec.expression written.now)) typer.old result typer.new }
     ensures held { IfOk result (λ made. is_held_passed made ≡ true) }
@@ -947,11 +853,7 @@ fn passed_ordinal(
 // A value of a structured type.
 #[cycle(expressions)]
 #[tactic(auto, using(crate::proofs::HeldForms::held_passed_whole), unfolding(typing::specs::Expressions::passed_whole))]
-fn passed_whole(
-    typer: &mut Typer,
-    type_id: TypeId,
-    written: &syntax::Expr,
-) -> Result<Passed, TypeFault>
+fn passed_whole(typer: &mut Typer, type_id: TypeId, written: &Expr) -> Made<Passed>
     ensures made { MakesPassed (spec.passed_whole type_id (spec.expression written.now)) typer.old result typer.new }
     ensures held { IfOk result (λ made. is_held_passed made ≡ true) }
 {
@@ -966,12 +868,7 @@ fn passed_whole(
 /// A value that is assigned to an ordinal type or a set type, with its test, whose site stands at the place (6.4.6).
 #[cycle(expressions)]
 #[tactic(auto, unfolding(crate::specs::Made::fitted))]
-pub fn fitted(
-    typer: &mut Typer,
-    type_id: TypeId,
-    place: Place,
-    written: &syntax::Expr,
-) -> Result<Fitted, TypeFault>
+pub fn fitted(typer: &mut Typer, type_id: TypeId, place: Place, written: &Expr) -> Made<Fitted>
     ensures made { MakesFitted (fitted (tested_as (kind_of typer.old.types type_id)) type_id place
         (spec.expression written.now) typer.old) result typer.new }
     ensures tests { IfOk result (λ made. made.fits.tests ≡ tested_as (kind_of typer.old.types type_id)) }
@@ -1004,8 +901,8 @@ pub fn copied(
     typer: &mut Typer,
     type_id: TypeId,
     place: Place,
-    written: &syntax::Expr,
-) -> Result<(Whole, Vec<Expr>), TypeFault>
+    written: &Expr,
+) -> Made<(Whole, Vec<tree::Expr>)>
     ensures made { MakesCopied (copied type_id place (spec.expression written.now) typer.old) result typer.new }
     ensures held { IfOk result (λ made. is_held_value made.0 (made.1).items ≡ true) }
 {

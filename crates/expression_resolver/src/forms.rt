@@ -5,7 +5,8 @@ ghost use Rattle.expression_resolver.specs.Made.{IsOnly};
 
 use place::Place;
 use syntax_tree::{Actual, Expr};
-use typed_tree::fault::TypeFault;
+use typed_tree::TypeFault;
+use typing::Made;
 
 /// Where an expression begins.
 #[tactic(auto, using(typing::proofs::Written::written_expressions))]
@@ -26,10 +27,7 @@ pub fn first_place(written: &Expr) -> Place
 
 /// The one actual of a function, which has no width.
 #[tactic(auto, using(crate::proofs::Only::only_one))]
-pub(crate) fn only<'e, 'a>(
-    place: Place,
-    actuals: &'e [Actual<'a>],
-) -> Result<&'e Expr<'a>, TypeFault>
+pub(crate) fn only<'e, 'a>(place: Place, actuals: &'e [Actual<'a>]) -> Made<&'e Expr<'a>>
     ensures one { IfOk result (λ value. IsOnly actuals.now value.now) }
     ensures only { MatchResult result
         (λ value. spec.only place (map spec.written_actual actuals.now) ≡ Ok (spec.expression value.now))
@@ -45,12 +43,8 @@ pub(crate) fn only<'e, 'a>(
 }
 
 /// What is told where it fits: K1 at the place where it doesn't.
-pub(crate) fn fits<T: Copy>(test: bool, place: Place, told: T) -> Result<T, TypeFault>
+pub(crate) fn fits<T: Copy>(test: bool, place: Place, told: T) -> Made<T>
     ensures { result ≡ fits test place told }
 {
-    if test {
-        Ok(told)
-    } else {
-        Err(TypeFault::Mismatch(place))
-    }
+    test.then_some(told).ok_or(TypeFault::Mismatch(place))
 }

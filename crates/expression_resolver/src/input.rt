@@ -1,20 +1,18 @@
 //! The functions that ask something of the input (ISO 7185:1990, 6.6.6.5).
 ghost use Rattle.std.specs.Prelude.{◌≡◌, map};
 ghost use Rattle.typing.specs.Expressions as spec;
-ghost use Rattle.typing.specs.Outcomes.{Takes};
+ghost use Rattle.typing.specs.Outcomes.{TypingTakes};
 ghost use Rattle.expression_resolver.specs.Made.{MakesTyped};
 
 use crate::forms::only;
-use crate::typed::TypedExpr;
-use crate::value::Value;
+use crate::{Lead, TypedExpr, Value};
 use place::Place;
 use scopes::{File, InputFunction};
-use syntax_tree as syntax;
-use typed_tree::fault::TypeFault;
-use typed_tree::site::SiteKind;
-use typed_tree::tree::{Expr, InputTest};
+use syntax_tree::{Actual, Expr, Name, Selector};
+use typed_tree::TypeFault;
+use typed_tree::tree::{self, InputTest};
 use types::TypeTable;
-use typing::Typer;
+use typing::{Made, Typer};
 use typing_rules::as_file;
 
 /// The value of such a function, at its name: K8 there where input is no program parameter.
@@ -23,8 +21,8 @@ pub(crate) fn input_value(
     typer: &mut Typer,
     function: InputFunction,
     place: Place,
-    lead: Option<SiteKind>,
-) -> Result<TypedExpr, TypeFault>
+    lead: Lead,
+) -> Made<TypedExpr>
     ensures { MakesTyped (spec.input_value function place lead typer.old) result typer.new }
 {
     typer.pass(place);
@@ -33,7 +31,7 @@ pub(crate) fn input_value(
     let asks = input_test(typer, function, place)?;
     let number = typer.enter()?;
     let type_id = TypeTable::BOOLEAN;
-    let value = Expr::Input { number, asks };
+    let value = tree::Expr::Input { number, asks };
     Ok(TypedExpr {
         value: Value::Ordinal { type_id, value },
         site,
@@ -42,12 +40,8 @@ pub(crate) fn input_value(
 
 // What it asks: eoln has a point at its name.
 #[tactic(auto, unfolding(typing::specs::Expressions::input_test))]
-fn input_test(
-    typer: &mut Typer,
-    function: InputFunction,
-    place: Place,
-) -> Result<InputTest, TypeFault>
-    ensures { Takes (spec.input_test function place typer.old) result typer.new }
+fn input_test(typer: &mut Typer, function: InputFunction, place: Place) -> Made<InputTest>
+    ensures { TypingTakes (spec.input_test function place typer.old) result typer.new }
 {
     match function {
         InputFunction::Eof => Ok(InputTest::End),
@@ -64,9 +58,9 @@ pub(crate) fn input_call(
     typer: &mut Typer,
     function: InputFunction,
     place: Place,
-    actuals: &[syntax::Actual],
-    lead: Option<SiteKind>,
-) -> Result<TypedExpr, TypeFault>
+    actuals: &[Actual],
+    lead: Lead,
+) -> Made<TypedExpr>
     ensures { MakesTyped (spec.input_call function place (map spec.written_actual actuals.now) lead typer.old) result
         typer.new }
 {
@@ -79,12 +73,12 @@ pub(crate) fn input_call(
 
 /// The file that an expression names, if it is the name of one.
 #[tactic(auto, using(typing::proofs::Written::written_expressions))]
-pub fn named_file(typer: &mut Typer, written: &syntax::Expr) -> Result<Option<File>, TypeFault>
-    ensures { Takes ((spec.expression written.now).file typer.old) result typer.new }
+pub fn named_file(typer: &mut Typer, written: &Expr) -> Made<Option<File>>
+    ensures { TypingTakes ((spec.expression written.now).file typer.old) result typer.new }
 {
     match written {
-        syntax::Expr::Name(name) => file_of(typer, name, &[]),
-        syntax::Expr::Component {
+        Expr::Name(name) => file_of(typer, name, &[]),
+        Expr::Component {
             name,
             selectors,
             ..
@@ -95,12 +89,8 @@ pub fn named_file(typer: &mut Typer, written: &syntax::Expr) -> Result<Option<Fi
 
 // The file that a name without selectors denotes.
 #[tactic(auto, unfolding(typing::specs::Expressions::file_named))]
-fn file_of(
-    typer: &mut Typer,
-    name: &syntax::Name,
-    selectors: &[syntax::Selector],
-) -> Result<Option<File>, TypeFault>
-    ensures { Takes (spec.file_named name.now selectors.now typer.old) result typer.new }
+fn file_of(typer: &mut Typer, name: &Name, selectors: &[Selector]) -> Made<Option<File>>
+    ensures { TypingTakes (spec.file_named name.now selectors.now typer.old) result typer.new }
 {
     match selectors {
         [] => Ok(as_file(typer.find(name)?)),

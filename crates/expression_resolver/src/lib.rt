@@ -14,5 +14,5 @@ pub use accesses::named_variable;
 pub use expressions::{access, copied, expression, fitted, reach, routine_call};
 pub use forms::first_place;
 pub use input::named_file;
-pub use typed::{Reached, TypedCall, TypedExpr};
+pub use typed::{Lead, Reached, TypedCall, TypedExpr};
 pub use value::Value;

@@ -11,13 +11,13 @@ ghost use Rattle.expression_resolver.specs.Made.{typed_of};
 ghost use Rattle.expression_resolver.specs.Values.{is_held_as_told, look_value, scalar_of, value_of};
 
 use crate::owned::made_beside;
-use crate::typed::{Begun, RightOperand, TypedExpr, TypedLinks};
-use crate::value::Value;
+use crate::typed::{Begun, RightOperand, TypedLinks};
+use crate::{TypedExpr, Value};
 use place::Place;
 use std::alloc::Global;
-use typed_tree::fault::TypeFault;
-use typed_tree::tree::{Dyadic, Expr, Link, Monadic};
+use typed_tree::{Dyadic, Expr, Link, Monadic, TypeFault};
 use types::{TypeId, TypeTable};
+use typing::Made;
 use typing_rules::TypedValue;
 
 /// An operation on an operand, an ordinal, with a result of a type.
@@ -28,7 +28,7 @@ pub(crate) fn monadic(
     operation: Monadic,
     operand: Expr,
     type_id: TypeId,
-) -> Result<TypedExpr, TypeFault>
+) -> Made<TypedExpr>
     requires held { is_ordinal_expr operand ≡ true }
     ensures { MatchResult result (IsMonadicOf begun operation operand type_id) (λ why. why ≡ Memory the_refusal) }
 {
@@ -64,8 +64,8 @@ pub(crate) fn chain(
     alloc: Global,
     place: Place,
     left: TypedExpr,
-    rest: Result<TypedLinks, TypeFault>,
-) -> Result<TypedExpr, TypeFault>
+    rest: Made<TypedLinks>,
+) -> Made<TypedExpr>
     requires held { AreLinksOf (value_of left.value) rest }
     ensures { MakesChain place left rest result }
 {
@@ -81,12 +81,7 @@ pub(crate) fn chain(
 
 // Operators of one precedence behind a first operand.
 #[tactic(auto, using(typed_tree::proofs::Looks::look_chain, crate::proofs::HeldForms::held_chain))]
-fn chained(
-    alloc: Global,
-    first: Expr,
-    site: Option<u32>,
-    rest: TypedLinks,
-) -> Result<TypedExpr, TypeFault>
+fn chained(alloc: Global, first: Expr, site: Option<u32>, rest: TypedLinks) -> Made<TypedExpr>
     requires scalar { is_scalar_value rest.typed.value ≡ true }
     requires held { is_held (scalar_of rest.typed.value)
         (links_held (held_by first) (map held_behind rest.links.items)) ≡ true }
@@ -104,43 +99,30 @@ fn chained(
 }
 
 /// The relation of a left operand and a right one that it takes, unless that is refused.
-pub(crate) fn relation(
-    alloc: Global,
-    left: TypedExpr,
-    right: Result<RightOperand, TypeFault>,
-) -> Result<TypedExpr, TypeFault>
+pub(crate) fn relation(alloc: Global, left: TypedExpr, right: Made<RightOperand>) -> Made<TypedExpr>
     requires related { IsRightOf (value_of left.value) right }
     ensures { MakesRelation left right result }
 {
-    let RightOperand {
-        number,
-        operation,
-        operand,
-    } = made_beside!(right, left);
+    let right = made_beside!(right, left);
     if left.typed().value.is_scalar() {
-        linked(alloc, number, operation, left, operand)
+        linked(alloc, left, right)
     } else {
-        Ok(compared(alloc, number, operation, left, operand))
+        Ok(compared(alloc, left, right))
     }
 }
 
 // The relation of two operands, each an ordinal or a set.
-fn linked(
-    alloc: Global,
-    number: u32,
-    operation: Dyadic,
-    left: TypedExpr,
-    right: TypedExpr,
-) -> Result<TypedExpr, TypeFault>
-    requires related { relates operation (value_of left.value) (value_of right.value) ≡ true }
+fn linked(alloc: Global, left: TypedExpr, right: RightOperand) -> Made<TypedExpr>
+    requires related { relates right.operation (value_of left.value) (value_of right.operand.value) ≡ true }
     requires scalar { is_scalar_value (value_of left.value) ≡ true }
-    ensures { MatchResult result (IsRelationOf number operation left right) (λ why. why ≡ Memory the_refusal) }
+    ensures { MatchResult result (IsRelationOf right.number right.operation left right.operand)
+        (λ why. why ≡ Memory the_refusal) }
 {
     let site = left.site;
     let link = Link {
-        number,
-        operation,
-        operand: right.into_scalar(),
+        number: right.number,
+        operation: right.operation,
+        operand: right.operand.into_scalar(),
     };
     let value = Expr::Chain {
         first: Box::new(alloc, left.into_scalar())?,
@@ -150,23 +132,17 @@ fn linked(
 }
 
 // The relation of two structured operands.
-fn compared(
-    alloc: Global,
-    number: u32,
-    operation: Dyadic,
-    left: TypedExpr,
-    right: TypedExpr,
-) -> TypedExpr
-    requires related { relates operation (value_of left.value) (value_of right.value) ≡ true }
+fn compared(alloc: Global, left: TypedExpr, right: RightOperand) -> TypedExpr
+    requires related { relates right.operation (value_of left.value) (value_of right.operand.value) ≡ true }
     requires structured { is_scalar_value (value_of left.value) ≡ false }
-    ensures { IsRelationOf number operation left right result }
+    ensures { IsRelationOf right.number right.operation left right.operand result }
 {
-    let Dyadic::Relation(relation) = operation else {
+    let Dyadic::Relation(relation) = right.operation else {
         unreachable!();
     };
-    let site = left.site;
+    let (number, site) = (right.number, left.site);
     let (left, left_indexes) = left.into_whole(alloc);
-    let (right, right_indexes) = right.into_whole(alloc);
+    let (right, right_indexes) = right.operand.into_whole(alloc);
     let value = Expr::Compare {
         number,
         relation,

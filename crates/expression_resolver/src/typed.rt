@@ -2,15 +2,16 @@ ghost use Rattle.std.specs.Prelude.{◌≡◌, true};
 ghost use Rattle.typed_tree.specs.Kinds.{are_ordinal_indexes, is_ordinal_expr};
 ghost use Rattle.expression_resolver.specs.Values.{are_held_actuals, is_held_as_told};
 
+use crate::Value;
 use crate::owned::made_beside;
-use crate::value::Value;
 use place::Place;
 use std::alloc::Global;
-use typed_tree::fault::TypeFault;
 use typed_tree::tree::{
     Access, Base, Call, Designator, Dyadic, Expr, Link, Passed, Selector, Whole,
 };
+use typed_tree::{SiteKind, TypeFault};
 use types::TypeId;
+use typing::Made;
 use typing_rules::{Typed, TypedValue};
 
 /// An expression, and the id of its leading site.
@@ -112,10 +113,7 @@ impl TypedExpr {
     }
 
     /// The ordinal or the set that it is, with what is told of it, unless that is refused.
-    pub(crate) fn scalar_with<T: Drop>(
-        self,
-        told: Result<T, TypeFault>,
-    ) -> Result<(T, Expr), TypeFault>
+    pub(crate) fn scalar_with<T: Drop>(self, told: Made<T>) -> Made<(T, Expr)>
         requires scalar { IfOk told (λ one. is_scalar_value (value_of self.value) ≡ true) }
         ensures { MatchResult result (λ made. (told ≡ Ok made.0) × IsScalarOf self.value made.1)
             (λ why. told ≡ Err why) }
@@ -128,8 +126,8 @@ impl TypedExpr {
     pub(crate) fn whole_with<T: Drop>(
         self,
         alloc: Global,
-        told: Result<T, TypeFault>,
-    ) -> Result<(Whole, Vec<Expr>), TypeFault>
+        told: Made<T>,
+    ) -> Made<(Whole, Vec<Expr>)>
         requires structured { IfOk told (λ one. is_some (whole_copy (value_of self.value)) ≡ true) }
         ensures { MatchResult result (λ made. IsOk told × IsWholeOf self.value made) (λ why. told ≡ Err why) }
     {
@@ -138,7 +136,7 @@ impl TypedExpr {
     }
 
     /// The ordinal that it is, of this type: K1 at the place where it is none.
-    pub fn of(self, type_id: TypeId, place: Place) -> Result<Expr, TypeFault>
+    pub fn of(self, type_id: TypeId, place: Place) -> Made<Expr>
         ensures typed { MatchResult result
             (λ made. (is_of type_id (typed_of self) ≡ true) × (look_value self.value ≡ look_expr made))
             (λ why. (is_of type_id (typed_of self) ≡ false) × (why ≡ Mismatch place)) }
@@ -213,6 +211,9 @@ pub struct Reached {
     pub type_id: TypeId,
     pub ghost held: { are_ordinal_indexes indexes.items ≡ true },
 }
+
+/// The kind of the site that leads an expression, if there is one.
+pub type Lead = Option<SiteKind>;
 
 /// An expression that is entered.
 #[derive(Clone, Copy)]

@@ -1,4 +1,4 @@
-use typed_tree::tree::{Access, Expr};
+use typed_tree::{Access, Expr};
 use types::{SetBase, TypeId};
 
 /// What stands for the value of an expression (ISO 7185:1990, 6.4.1), with its type as far as it has one.

@@ -9,7 +9,7 @@ use Rattle.typed_tree.specs.declared.tree.Direction.TheVariants.{To, DownTo}
 use Rattle.typed_tree.specs.declared.tree.ForHead.{ForHead}
 use Rattle.typed_tree.specs.declared.tree.Stmt.{Stmt}
 use Rattle.meaning.specs.declared.outcome.Ending.TheVariants as ending
-use Rattle.meaning.specs.declared.store.Value.TheVariants.{Number}
+use Rattle.meaning.specs.declared.value.Value.TheVariants.{Number}
 use Rattle.meaning.specs.Counting.{has_values, next_value, value_behind}
 use Rattle.meaning.specs.Meaning.{Surroundings}
 use Rattle.meaning.specs.Store.{kept}

@@ -17,8 +17,8 @@ use Rattle.typed_tree.specs.declared.tree.Stmt.TheVariants as stmt
 use Rattle.typed_tree.specs.declared.tree.Stmt.TheOpen.Stmt-F.{Read as Read-F}
 use Rattle.typed_tree.specs.Accesses.{origin_of}
 use Rattle.meaning.specs.declared.outcome.Ending.TheVariants as ending
-use Rattle.meaning.specs.declared.store.Value.{Value}
-use Rattle.meaning.specs.declared.store.Value.TheVariants.{Number}
+use Rattle.meaning.specs.declared.value.Value.{Value}
+use Rattle.meaning.specs.declared.value.Value.TheVariants.{Number}
 use Rattle.meaning.specs.Store.{Place}
 use Rattle.meaning.specs.Integers.{truth}
 use Rattle.meaning.specs.Effect.{State, Reply, Stops, Action, ◌>>=◌, and_then, give, store, taken}

@@ -14,7 +14,7 @@ use Rattle.interpreter_state.specs.contracts.store.PlaceOrd.TheImpl.{ghosts as p
 use Rattle.meaning.specs.Store.{Store, step_eq, place_eq, stored}
 use Rattle.std.specs.BTreeMap.{BTreeMap, get, is_at}
 use Rattle.std.proofs.Math.Bool.{cond}
-use Rattle.meaning.specs.declared.store.Value.{Value}
+use Rattle.meaning.specs.declared.value.Value.{Value}
 use Rattle.interpreter_state.specs.Views.{place_seen}
 use Rattle.interpreter.specs.Pending.{StoreAgrees}
 

@@ -12,12 +12,12 @@ use Rattle.types.specs.declared.form.OrdinalRange.{OrdinalRange}
 use Rattle.meaning.specs.declared.outcome.Ending.{Ending}
 use Rattle.std.proofs.lemmas.List.{reverse-append}
 use Rattle.std.specs.Option.{ok_or}
-use Rattle.meaning.specs.declared.store.Value.{Value}
+use Rattle.meaning.specs.declared.value.Value.{Value}
 use Rattle.interpreter.specs.declared.interpreter.Run.{Run}
 use Rattle.interpreter_state.specs.declared.work.Work.{Work}
 use Rattle.types.specs.declared.form.Step.TheVariants as step
 use Rattle.meaning.specs.declared.outcome.Ending.TheVariants as ending
-use Rattle.meaning.specs.declared.store.Value.TheVariants.{Number, Members}
+use Rattle.meaning.specs.declared.value.Value.TheVariants.{Number, Members}
 use Rattle.meaning.specs.Meaning.{Surroundings}
 use Rattle.meaning.specs.Store.{Place, held, kept, part}
 use Rattle.meaning.specs.Effect.{State, Reply, Stops, Action, ◌>>=◌, and_then, fetched, fetch, give, is_in, number_of, require, stop, store}
@@ -26,7 +26,7 @@ use Rattle.typed_tree.specs.declared.tree.Tree.{Tree}
 use Rattle.meaning.proofs.Turns.{ExtendedCalls, extended_calls}
 use Rattle.operations.specs.Answers.{answered, checked, index_tested}
 use Rattle.meaning.specs.Meaning.{Argument, OfValue}
-use Rattle.interpreter.specs.Pending.{Resumption, Agrees, Continues, Does, pending_of, resumed, rest_of, operands_of}
+use Rattle.interpreter.specs.Pending.{Resumption, Agrees, Continues, RunDoes, pending_of, resumed, rest_of, operands_of}
 use Rattle.interpreter.specs.Pending.{tested, with_top, chosen, keeping, or_end, top_of, below_top, indexed}
 
 map_append : {A B : Type 0} (f : A → B) (xs ys : List A) → map f (xs ++ ys) ≡ map f xs ++ map f ys
@@ -79,9 +79,10 @@ module _ (env : Surroundings) (outer : Resumption) (old new : Run) where
   continues_as reply other result is continues = subst (λ (r : Reply (Unit {0})). Continues r result new) (sym is) continues
 
 -- a step that does another piece of work that is the same
-pub does_as : (old new : Run) (work other : Work) (result : Result (Option Ending) AllocError) → work ≡ other → Does (λ env. resumed env other) old result new →
-    Does (λ env. resumed env work) old result new
-does_as old new work other result is does = subst (λ (w : Work). Does (λ env. resumed env w) old result new) (sym is) does
+pub does_as : (old new : Run) (work other : Work) (result : Result (Option Ending) AllocError) → work ≡ other → RunDoes (λ env. resumed env other) old result
+    new →
+    RunDoes (λ env. resumed env work) old result new
+does_as old new work other result is does = subst (λ (w : Work). RunDoes (λ env. resumed env w) old result new) (sym is) does
 
 -- a run that stops behind its operands
 pub stops_below : (old taken : Run) (env : Surroundings) (outer : Resumption) (s : State) (start : Reply (Unit {0})) (ending : Ending) →
@@ -97,7 +98,7 @@ agreed_below old taken env outer s same agrees = subst (λ (r : Run). Agrees env
 pub goes_on_from : (old taken new : Run) (env : Surroundings) (outer : Resumption) (s : State) (piece : Surroundings → Resumption → Resumption)
     (below : List Argument) (result : Result (Option Ending) AllocError) (start : Reply (Unit {0})) → taken.pending.items ≡ old.pending.items →
     operands_of taken ≡ below → start ≡ piece env (pending_of env outer (reverse old.pending.items)) below s → Agrees env outer taken s →
-    Does piece taken result new → Continues start result new
+    RunDoes piece taken result new → Continues start result new
 goes_on_from old taken new env outer s piece below result start same left is agrees does =
     continues_as env outer old new start _ result
     (is
@@ -109,7 +110,7 @@ goes_on_from old taken new env outer s piece below result start same left is agr
 pub goes_on_below : (old taken new : Run) (env : Surroundings) (outer : Resumption) (s : State) (piece : Surroundings → Resumption → Resumption)
     (below : List Argument) (result : Result (Option Ending) AllocError) (start : Reply (Unit {0})) → taken ≡ record old { operands = taken.operands } →
     operands_of taken ≡ below → start ≡ piece env (pending_of env outer (reverse old.pending.items)) below s → Agrees env outer old s →
-    Does piece taken result new → Continues start result new
+    RunDoes piece taken result new → Continues start result new
 goes_on_below old taken new env outer s piece below result start same left is agrees does =
     goes_on_from old taken new env outer s piece below result start (ap (λ (r : Run). r.pending.items) same) left is
     (agreed_below old taken env outer s same agrees) does
@@ -134,7 +135,7 @@ giving_as operand action next operands = action >>= λ a. next (operand a ∷ op
 pub goes_on_by : {A : Type 0} (operand : A → Argument) (old taken new : Run) (env : Surroundings) (outer : Resumption) (s : State) (action : Action A)
     (answer : Result A ℕ) (below : List Argument) (result : Result (Option Ending) AllocError) → taken ≡ record old { operands = taken.operands } →
     operands_of taken ≡ below → action s ≡ answered answer s → Agrees env outer old s →
-    Does (λ env. giving_as operand (answered answer)) taken result new →
+    RunDoes (λ env. giving_as operand (answered answer)) taken result new →
     Continues (giving_as operand action (pending_of env outer (reverse old.pending.items)) below s) result new
 goes_on_by operand old taken new env outer s action answer below result same left gives agrees does =
     goes_on_below old taken new env outer s (λ env. giving_as operand (answered answer)) below result _ same left

@@ -4,7 +4,7 @@ use Rattle.std.proofs.Common.{append_assoc, arith, refl, sym, ap, ◌∙◌}
 use Rattle.std.proofs.Math.Seq.{drop-cons}
 use Rattle.types.specs.declared.form.Step.{Step}
 use Rattle.meaning.specs.declared.outcome.Ending.TheVariants as ending
-use Rattle.meaning.specs.declared.store.Value.{Value}
+use Rattle.meaning.specs.declared.value.Value.{Value}
 use Rattle.meaning.specs.Store.{Place, Store, held, kept, part}
 use Rattle.meaning.specs.Effect.{State, Action, Gives, ◌>>=◌, and_then, fetch_all, fetched, give, stop, store_all}
 use Rattle.interpreter.specs.Pending.{held_all, joined, kept_all}

@@ -11,7 +11,7 @@ use Rattle.typed_tree.specs.declared.tree.Stmt.{Stmt}
 use Rattle.typed_tree.specs.WellFormed.{is_one_of}
 use Rattle.meaning.specs.declared.outcome.Ending.{Ending}
 use Rattle.meaning.specs.declared.outcome.Ending.TheVariants.{Finished}
-use Rattle.meaning.specs.declared.store.Value.{Value}
+use Rattle.meaning.specs.declared.value.Value.{Value}
 use Rattle.meaning.specs.Effect.{State, Reply, Gives, Stops, and_then, give}
 use Rattle.meaning.specs.Meaning.{Argument, calls_of, effect_of, program_activation, program_surroundings, run_of, meaning, first_state}
 use Rattle.interpreter_state.specs.declared.store.Place.{Place as KeptPlace}

@@ -38,8 +38,8 @@ use Rattle.typed_tree.specs.declared.tree.WithRecord.{WithRecord}
 use Rattle.typed_tree.specs.Accesses.{origin_of}
 use Rattle.typed_tree.specs.WellFormed.{length_of}
 use Rattle.meaning.specs.declared.outcome.Ending.{Ending}
-use Rattle.meaning.specs.declared.store.Value.{Value}
-use Rattle.meaning.specs.declared.store.Value.TheVariants.{Number, Members}
+use Rattle.meaning.specs.declared.value.Value.{Value}
+use Rattle.meaning.specs.declared.value.Value.TheVariants.{Number, Members}
 use Rattle.operations.specs.Answers.{positive, value_before}
 use Rattle.interpreter_state.specs.declared.activation.Activation.{Activation as KeptActivation}
 use Rattle.interpreter_state.specs.declared.store.Place.{Place as KeptPlace}
@@ -579,14 +579,14 @@ Continues reply (Ok (Some ending)) run =
     (env : Surroundings) × (outer : Resumption) × (s : State) × Agrees env outer run s × (reply ≡ Stops ending s)
 
 -- a step does a piece of work: in each state that the run agrees with
-abbrev pub Does : (Surroundings → Resumption → Resumption) → Run → Result (Option Ending) AllocError → Run → Type 0
-Does piece old result new =
+abbrev pub RunDoes : (Surroundings → Resumption → Resumption) → Run → Result (Option Ending) AllocError → Run → Type 0
+RunDoes piece old result new =
     (env : Surroundings) (outer : Resumption) (s : State) → Agrees env outer old s →
     Continues (piece env (pending_of env outer (reverse old.pending.items)) (operands_of old) s) result new
 
 -- an activation with nothing left to do ends, and the latest caller goes on
-abbrev pub Leaves : Run → Result (Option Ending) AllocError → Run → Type 0
-Leaves old result new =
+abbrev pub RunLeaves : Run → Result (Option Ending) AllocError → Run → Type 0
+RunLeaves old result new =
     (env : Surroundings) (outer : Resumption) (s : State) → Agrees env outer old s → old.pending.items ≡ [] →
     0 < length old.callers.items → Continues (outer (operands_of old) s) result new
 

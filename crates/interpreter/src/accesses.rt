@@ -2,20 +2,17 @@ ghost use Rattle.std.specs.Prelude.{◌≡◌, ◌+◌, ◌∷◌, [], OnOk, opt
 ghost use Rattle.meaning.specs.Store.{part};
 ghost use Rattle.meaning.specs.Meaning.{OfPlace};
 ghost use Rattle.interpreter_state.specs.Views.{place_seen};
-ghost use Rattle.interpreter.specs.Pending.{Does, accessing, below_top, keeping, operands_of, resumed, selecting};
+ghost use Rattle.interpreter.specs.Pending.{RunDoes, accessing, below_top, keeping, operands_of, resumed, selecting};
 ghost use Rattle.interpreter.specs.Pending.{top_place};
 ghost use Rattle.interpreter.specs.Size.{Adds, Lightens, size_of, size_of_selectors};
 
 use crate::interpreter::Run;
-use interpreter_state::operand::Operand;
-use interpreter_state::store::{Place, part};
-use interpreter_state::work::{Work, put};
-use meaning::outcome::Ending;
-use meaning::store::Value;
+use interpreter_state::{Operand, Place, Work, part, put};
+use meaning::{Ending, Value};
 use operations::ordinals::{tested_index, value_in};
 use operations::rows::row_of;
 use std::alloc::AllocError;
-use typed_tree::tree::{Access, Expr, RangeTest, Selector, Whole};
+use typed_tree::{Access, Expr, RangeTest, Selector, Whole};
 use types::{OrdinalRange, Step, TypeId};
 
 // The steps of accesses and of whole values.
@@ -29,7 +26,7 @@ impl<'t> Run<'t, '_> {
     ) -> Result<Option<Ending>, AllocError>
         ensures size { Adds (2 + size_of later.entry + size_of_selectors access.now.selectors.items indexes.now)
             self.old result self.new }
-        ensures does { Does (λ env. accessing env access.now indexes.now later.entry) self.old result self.new }
+        ensures does { RunDoes (λ env. accessing env access.now indexes.now later.entry) self.old result self.new }
     {
         let place = self.start(access)?;
         self.push(Operand::Place(place))?;
@@ -46,7 +43,8 @@ impl<'t> Run<'t, '_> {
         indexes: &'t [Expr],
     ) -> Result<Option<Ending>, AllocError>
         ensures fewer { Lightens (Work.Select selectors.entry indexes.entry) self.old result self.new }
-        ensures does { Does (λ env. resumed env (Work.Select selectors.entry indexes.entry)) self.old result self.new }
+        ensures does { RunDoes (λ env. resumed env (Work.Select selectors.entry indexes.entry)) self.old result
+            self.new }
     {
         match selectors.split_first() {
             Some((Selector::Field { position, .. }, rest)) => {
@@ -69,7 +67,7 @@ impl<'t> Run<'t, '_> {
         indexes: &'t [Expr],
     ) -> Result<Option<Ending>, AllocError>
         ensures size { Adds (1 + size_of_selectors rest.now indexes.now) self.old result self.new }
-        ensures does { Does (λ env. selecting env (Selector.Element fits 0 ∷ rest.now) indexes.now)
+        ensures does { RunDoes (λ env. selecting env (Selector.Element fits 0 ∷ rest.now) indexes.now)
             self.old result self.new }
     {
         match indexes.split_first() {
@@ -94,7 +92,7 @@ impl<'t> Run<'t, '_> {
     // Tests the topmost value as an index, and goes on to the element at it.
     pub(crate) fn index(&mut self, fits: RangeTest) -> Result<Option<Ending>, AllocError>
         ensures fewer { Lightens (Work.Index fits) self.old result self.new }
-        ensures does { Does (λ env. resumed env (Work.Index fits)) self.old result self.new }
+        ensures does { RunDoes (λ env. resumed env (Work.Index fits)) self.old result self.new }
     {
         let index = self.popped();
         match tested_index(fits, index) {
@@ -118,7 +116,7 @@ impl<'t> Run<'t, '_> {
 
     pub(crate) fn fetch(&mut self, defined: u32) -> Result<Option<Ending>, AllocError>
         ensures fewer { Lightens (Work.Fetch defined) self.old result self.new }
-        ensures does { Does (λ env. resumed env (Work.Fetch defined)) self.old result self.new }
+        ensures does { RunDoes (λ env. resumed env (Work.Fetch defined)) self.old result self.new }
     {
         let place = self.popped_place();
         let value = self.found(&place);
@@ -127,7 +125,7 @@ impl<'t> Run<'t, '_> {
 
     pub(crate) fn store(&mut self, fits: RangeTest) -> Result<Option<Ending>, AllocError>
         ensures fewer { Lightens (Work.Store fits) self.old result self.new }
-        ensures does { Does (λ env. resumed env (Work.Store fits)) self.old result self.new }
+        ensures does { RunDoes (λ env. resumed env (Work.Store fits)) self.old result self.new }
     {
         let value = self.popped();
         let place = self.popped_place();
@@ -143,7 +141,8 @@ impl<'t> Run<'t, '_> {
         ending: Ending,
     ) -> Result<Option<Ending>, AllocError>
         ensures size { Adds 0 self.old result self.new }
-        ensures does { Does (λ env. keeping (option_map place_seen place) value range ending) self.old result self.new }
+        ensures does { RunDoes (λ env. keeping (option_map place_seen place) value range ending) self.old result
+            self.new }
     {
         match value_in(range, value) {
             Some(value) => {
@@ -160,7 +159,7 @@ impl<'t> Run<'t, '_> {
         indexes: &'t [Expr],
     ) -> Result<Option<Ending>, AllocError>
         ensures fewer { Lightens (Work.Whole value.entry indexes.entry) self.old result self.new }
-        ensures does { Does (λ env. resumed env (Work.Whole value.entry indexes.entry)) self.old result self.new }
+        ensures does { RunDoes (λ env. resumed env (Work.Whole value.entry indexes.entry)) self.old result self.new }
     {
         match value {
             Whole::Text { characters, .. } => {
@@ -190,7 +189,7 @@ impl<'t> Run<'t, '_> {
         defined: u32,
     ) -> Result<Option<Ending>, AllocError>
         ensures fewer { Lightens (Work.FetchRow type_id defined) self.old result self.new }
-        ensures does { Does (λ env. resumed env (Work.FetchRow type_id defined)) self.old result self.new }
+        ensures does { RunDoes (λ env. resumed env (Work.FetchRow type_id defined)) self.old result self.new }
     {
         let place = self.popped_place();
         match self.row(&place, type_id)? {
@@ -204,7 +203,7 @@ impl<'t> Run<'t, '_> {
 
     pub(crate) fn store_row(&mut self, type_id: TypeId) -> Result<Option<Ending>, AllocError>
         ensures fewer { Lightens (Work.StoreRow type_id) self.old result self.new }
-        ensures does { Does (λ env. resumed env (Work.StoreRow type_id)) self.old result self.new }
+        ensures does { RunDoes (λ env. resumed env (Work.StoreRow type_id)) self.old result self.new }
     {
         let row = self.popped_row();
         let place = self.popped_place();

@@ -4,19 +4,18 @@ ghost use Rattle.meaning.specs.Store.{Environment};
 ghost use Rattle.meaning.specs.Meaning.{assign, assign_all, result_of};
 ghost use Rattle.operations.specs.Answers.{answered};
 ghost use Rattle.interpreter_state.specs.Views.{operand_seen};
-ghost use Rattle.interpreter.specs.Pending.{Does, Leaves, Sees, StoreAgrees, StoresIn, beginning, calling, left_below};
+ghost use Rattle.interpreter.specs.Pending.{RunDoes, RunLeaves, Sees, StoreAgrees, StoresIn, beginning, calling};
+ghost use Rattle.interpreter.specs.Pending.{left_below};
 ghost use Rattle.interpreter.specs.Pending.{operands_of, resumed, taken_from};
 ghost use Rattle.interpreter.specs.Size.{Adds, Lightens, Shrinks, size_of};
 
 use crate::interpreter::Run;
-use interpreter_state::operand::Operand;
-use interpreter_state::work::{Caller, Work, put};
-use meaning::outcome::Ending;
-use meaning::store::{Ordinal, Value};
+use interpreter_state::{Caller, Operand, Work, put};
+use meaning::{Ending, Ordinal, Value};
 use operations::ordinals::value_in;
 use std::alloc::AllocError;
 use std::mem;
-use typed_tree::tree::{Block, Call, Passed, RangeTest};
+use typed_tree::{Block, Call, Passed, RangeTest};
 
 // The steps of calls.
 impl<'t> Run<'t, '_> {
@@ -27,7 +26,7 @@ impl<'t> Run<'t, '_> {
         actuals: &'t [Passed],
     ) -> Result<Option<Ending>, AllocError>
         ensures size { Adds (2 + size_of (Work.Pass actuals.entry)) self.old result self.new }
-        ensures does { Does (λ env. calling env call.now actuals.now) self.old result self.new }
+        ensures does { RunDoes (λ env. calling env call.now actuals.now) self.old result self.new }
     {
         self.plan(
             Work::Pass(actuals),
@@ -40,7 +39,7 @@ impl<'t> Run<'t, '_> {
 
     pub(crate) fn pass(&mut self, actuals: &'t [Passed]) -> Result<Option<Ending>, AllocError>
         ensures fewer { Lightens (Work.Pass actuals.entry) self.old result self.new }
-        ensures does { Does (λ env. resumed env (Work.Pass actuals.entry)) self.old result self.new }
+        ensures does { RunDoes (λ env. resumed env (Work.Pass actuals.entry)) self.old result self.new }
     {
         let Some((first, rest)) = actuals.split_first() else {
             return Ok(None);
@@ -64,7 +63,7 @@ impl<'t> Run<'t, '_> {
     // Tests the topmost value.
     pub(crate) fn test(&mut self, fits: RangeTest) -> Result<Option<Ending>, AllocError>
         ensures fewer { Lightens (Work.Test fits) self.old result self.new }
-        ensures does { Does (λ env. resumed env (Work.Test fits)) self.old result self.new }
+        ensures does { RunDoes (λ env. resumed env (Work.Test fits)) self.old result self.new }
     {
         let value = self.popped();
         self.go_on(value_in(fits.range, value).ok_or(fits.site))
@@ -77,7 +76,7 @@ impl<'t> Run<'t, '_> {
         count: usize,
     ) -> Result<Option<Ending>, AllocError>
         ensures fewer { Lightens (Work.Activate number count) self.old result self.new }
-        ensures does { Does (λ env. resumed env (Work.Activate number count)) self.old result self.new }
+        ensures does { RunDoes (λ env. resumed env (Work.Activate number count)) self.old result self.new }
     {
         let arguments = self.arguments(count)?;
         let Some(block) = self.tree.blocks.get(number as usize) else {
@@ -114,7 +113,7 @@ impl<'t> Run<'t, '_> {
     ) -> Result<Option<Ending>, AllocError>
         requires { 0 < self.old.activation.depth }
         ensures size { Adds 0 self.old result self.new }
-        ensures does { Does (beginning self.old.tree.now self.old.activation.depth number block.now
+        ensures does { RunDoes (beginning self.old.tree.now self.old.activation.depth number block.now
             (map operand_seen arguments.now)) self.old result self.new }
     {
         if self.turns == 0 {
@@ -183,7 +182,7 @@ impl<'t> Run<'t, '_> {
     // turn of a for, and what stands behind it follows.
     pub(crate) fn leave(&mut self) -> Result<Option<Ending>, AllocError>
         ensures fewer { Shrinks self.old result self.new }
-        ensures does { Leaves self.old result self.new }
+        ensures does { RunLeaves self.old result self.new }
     {
         match self.callers.pop() {
             Some(
@@ -231,7 +230,7 @@ impl<'t> Run<'t, '_> {
     // Behind a procedure: it has no result.
     pub(crate) fn discard(&mut self) -> Result<Option<Ending>, AllocError>
         ensures fewer { Lightens Work.Discard self.old result self.new }
-        ensures does { Does (λ env. resumed env Work.Discard) self.old result self.new }
+        ensures does { RunDoes (λ env. resumed env Work.Discard) self.old result self.new }
     {
         let _value = self.popped();
         Ok(None)

@@ -1,23 +1,21 @@
 ghost use Rattle.std.specs.Prelude.{◌+◌, ◌∷◌};
-ghost use Rattle.interpreter.specs.Pending.{Does, constructing, gathering, resumed};
+ghost use Rattle.interpreter.specs.Pending.{RunDoes, constructing, gathering, resumed};
 ghost use Rattle.interpreter.specs.Size.{Adds, Lightens, size_of_gather};
 
 use crate::interpreter::Run;
-use interpreter_state::operand::Operand;
-use interpreter_state::work::{Work, put};
-use meaning::outcome::Ending;
-use meaning::store::{Ordinal, Value};
+use interpreter_state::{Operand, Work, put};
+use meaning::{Ending, Ordinal, Value};
 use operations::ordinals::operated_number;
 use operations::rows::compared_number;
 use operations::sets::{operated_value, with_one, with_range};
 use std::alloc::AllocError;
-use typed_tree::tree::{Designator, Dyadic, Expr, Link, Monadic, Relation, Whole};
+use typed_tree::{Designator, Dyadic, Expr, Link, Monadic, Relation, Whole};
 
 // The steps of expressions.
 impl<'t> Run<'t, '_> {
     pub(crate) fn value(&mut self, expression: &'t Expr) -> Result<Option<Ending>, AllocError>
         ensures fewer { Lightens (Work.Value expression.entry) self.old result self.new }
-        ensures does { Does (λ env. resumed env (Work.Value expression.entry)) self.old result self.new }
+        ensures does { RunDoes (λ env. resumed env (Work.Value expression.entry)) self.old result self.new }
     {
         match expression {
             Expr::Constant { value, .. } => self.go_on(Ok(Value::Number(Ordinal::new(*value)))),
@@ -64,7 +62,7 @@ impl<'t> Run<'t, '_> {
 
     pub(crate) fn monadic(&mut self, operation: Monadic) -> Result<Option<Ending>, AllocError>
         ensures fewer { Lightens (Work.Monadic operation) self.old result self.new }
-        ensures does { Does (λ env. resumed env (Work.Monadic operation)) self.old result self.new }
+        ensures does { RunDoes (λ env. resumed env (Work.Monadic operation)) self.old result self.new }
     {
         let operand = self.popped_number();
         self.go_on_with(operated_number(operation, operand))
@@ -72,7 +70,7 @@ impl<'t> Run<'t, '_> {
 
     pub(crate) fn links(&mut self, links: &'t [Link]) -> Result<Option<Ending>, AllocError>
         ensures fewer { Lightens (Work.Links links.entry) self.old result self.new }
-        ensures does { Does (λ env. resumed env (Work.Links links.entry)) self.old result self.new }
+        ensures does { RunDoes (λ env. resumed env (Work.Links links.entry)) self.old result self.new }
     {
         match links.split_first() {
             Some((first, rest)) => {
@@ -85,7 +83,7 @@ impl<'t> Run<'t, '_> {
 
     pub(crate) fn combine(&mut self, operation: Dyadic) -> Result<Option<Ending>, AllocError>
         ensures fewer { Lightens (Work.Combine operation) self.old result self.new }
-        ensures does { Does (λ env. resumed env (Work.Combine operation)) self.old result self.new }
+        ensures does { RunDoes (λ env. resumed env (Work.Combine operation)) self.old result self.new }
     {
         let right = self.popped();
         let left = self.popped();
@@ -99,7 +97,7 @@ impl<'t> Run<'t, '_> {
         members: &'t [Expr],
     ) -> Result<Option<Ending>, AllocError>
         ensures size { Adds (1 + size_of_gather designators.now members.now) self.old result self.new }
-        ensures does { Does (λ env. constructing env designators.now members.now) self.old result self.new }
+        ensures does { RunDoes (λ env. constructing env designators.now members.now) self.old result self.new }
     {
         self.push(Operand::Value(Value::Members(0)))?;
         self.do_next(Work::Gather {
@@ -114,7 +112,7 @@ impl<'t> Run<'t, '_> {
         members: &'t [Expr],
     ) -> Result<Option<Ending>, AllocError>
         ensures fewer { Lightens (Work.Gather designators.entry members.entry) self.old result self.new }
-        ensures does { Does (λ env. resumed env (Work.Gather designators.entry members.entry))
+        ensures does { RunDoes (λ env. resumed env (Work.Gather designators.entry members.entry))
             self.old result self.new }
     {
         match designators.split_first() {
@@ -132,7 +130,7 @@ impl<'t> Run<'t, '_> {
         members: &'t [Expr],
     ) -> Result<Option<Ending>, AllocError>
         ensures size { Adds (2 + size_of_gather rest.now members.now) self.old result self.new }
-        ensures does { Does (λ env. gathering env (Designator.Single site ∷ rest.now) members.now)
+        ensures does { RunDoes (λ env. gathering env (Designator.Single site ∷ rest.now) members.now)
             self.old result self.new }
     {
         match members.split_first() {
@@ -158,7 +156,7 @@ impl<'t> Run<'t, '_> {
         members: &'t [Expr],
     ) -> Result<Option<Ending>, AllocError>
         ensures size { Adds (2 + size_of_gather rest.now members.now) self.old result self.new }
-        ensures does { Does (λ env. gathering env (Designator.Range site ∷ rest.now) members.now)
+        ensures does { RunDoes (λ env. gathering env (Designator.Range site ∷ rest.now) members.now)
             self.old result self.new }
     {
         let Some((first, behind)) = members.split_first() else {
@@ -182,7 +180,7 @@ impl<'t> Run<'t, '_> {
     // Adds the topmost value to the set below it.
     pub(crate) fn add_member(&mut self, site: u32) -> Result<Option<Ending>, AllocError>
         ensures fewer { Lightens (Work.AddMember site) self.old result self.new }
-        ensures does { Does (λ env. resumed env (Work.AddMember site)) self.old result self.new }
+        ensures does { RunDoes (λ env. resumed env (Work.AddMember site)) self.old result self.new }
     {
         let member = self.popped_number();
         let set = self.popped_set();
@@ -192,7 +190,7 @@ impl<'t> Run<'t, '_> {
     // Adds all from the second topmost value to the topmost one to the set below them.
     pub(crate) fn add_range(&mut self, site: u32) -> Result<Option<Ending>, AllocError>
         ensures fewer { Lightens (Work.AddRange site) self.old result self.new }
-        ensures does { Does (λ env. resumed env (Work.AddRange site)) self.old result self.new }
+        ensures does { RunDoes (λ env. resumed env (Work.AddRange site)) self.old result self.new }
     {
         let last = self.popped_number();
         let first = self.popped_number();
@@ -209,7 +207,7 @@ impl<'t> Run<'t, '_> {
         indexes: &'t [Expr],
     ) -> Result<Option<Ending>, AllocError>
         ensures fewer { Lightens (Work.RightSide number relation right.entry indexes.entry) self.old result self.new }
-        ensures does { Does (λ env. resumed env (Work.RightSide number relation right.entry indexes.entry))
+        ensures does { RunDoes (λ env. resumed env (Work.RightSide number relation right.entry indexes.entry))
             self.old result self.new }
     {
         self.plan(
@@ -223,7 +221,7 @@ impl<'t> Run<'t, '_> {
 
     pub(crate) fn compare(&mut self, relation: Relation) -> Result<Option<Ending>, AllocError>
         ensures fewer { Lightens (Work.Compare relation) self.old result self.new }
-        ensures does { Does (λ env. resumed env (Work.Compare relation)) self.old result self.new }
+        ensures does { RunDoes (λ env. resumed env (Work.Compare relation)) self.old result self.new }
     {
         let right = self.popped_row();
         let left = self.popped_row();

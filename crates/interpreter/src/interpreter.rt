@@ -1,18 +1,15 @@
 ghost use Rattle.std.specs.Prelude.{◌≡◌, ◌+◌, ◌<◌, IfOk, None, Ok};
 ghost use Rattle.meaning.specs.Meaning.{meaning};
-ghost use Rattle.interpreter.specs.Pending.{Advances, Does, Executes, Finishes, evaluating, resumed, turning_tested};
+ghost use Rattle.interpreter.specs.Pending.{Advances, RunDoes, Executes, Finishes, evaluating, resumed, turning_tested};
 ghost use Rattle.interpreter.specs.Size.{Adds, Lightens, Shrinks, size_of, size_of_expression};
 
 use interpreter_state::activation::Activation;
 use interpreter_state::input::Input;
-use interpreter_state::operand::Operand;
-use interpreter_state::store::Place;
-use interpreter_state::work::{Caller, Work, put};
-use meaning::outcome::{Ending, Outcome};
-use meaning::store::Value;
+use interpreter_state::{Caller, Operand, Place, Work, put};
+use meaning::{Ending, Outcome, Value};
 use std::alloc::{AllocError, Global};
 use std::collections::BTreeMap;
-use typed_tree::tree::{Expr, Tree};
+use typed_tree::{Expr, Tree};
 
 /// What a program writes and how it ends, from an input and for a number of turns: each start of a
 /// loop's body or of a routine's block uses one.
@@ -68,7 +65,7 @@ pub(crate) struct Run<'t, 'i> {
 }
 
 impl<'t> Run<'t, '_> {
-    // Does the statement of the program's block, in the first activation.
+    // RunDoes the statement of the program's block, in the first activation.
     fn execute(&mut self) -> Result<Ending, AllocError>
         ensures { Executes self.old result self.new }
     {
@@ -87,7 +84,7 @@ impl<'t> Run<'t, '_> {
         }
     }
 
-    // Does the work that is left.
+    // RunDoes the work that is left.
     fn finish(&mut self) -> Result<Ending, AllocError>
         ensures { Finishes self.old result self.new }
     {
@@ -98,7 +95,7 @@ impl<'t> Run<'t, '_> {
         }
     }
 
-    // Does the work that is left until a turn is used or the run ends.
+    // RunDoes the work that is left until a turn is used or the run ends.
     fn work_in_turn(&mut self) -> Result<Option<Ending>, AllocError>
         ensures fewer { result ≡ Ok None → self.new.turns < self.old.turns }
         ensures does { Advances self.old result self.new }
@@ -114,7 +111,7 @@ impl<'t> Run<'t, '_> {
         }
     }
 
-    // Does the next piece of work; where none is left the activation ends, and with the program's own the run.
+    // RunDoes the next piece of work; where none is left the activation ends, and with the program's own the run.
     fn advance(&mut self) -> Result<Option<Ending>, AllocError>
         ensures fewer { Shrinks self.old result self.new }
         ensures does { Advances self.old result self.new }
@@ -130,7 +127,7 @@ impl<'t> Run<'t, '_> {
 
     fn step(&mut self, work: Work<'t>) -> Result<Option<Ending>, AllocError>
         ensures fewer { Lightens work.entry self.old result self.new }
-        ensures does { Does (λ env. resumed env work.entry) self.old result self.new }
+        ensures does { RunDoes (λ env. resumed env work.entry) self.old result self.new }
     {
         match work {
             Work::Statements(statements) => self.statements(statements),
@@ -193,7 +190,7 @@ impl<'t> Run<'t, '_> {
     // What is done next.
     pub(crate) fn do_next(&mut self, next: Work<'t>) -> Result<Option<Ending>, AllocError>
         ensures size { Adds (1 + size_of next.entry) self.old result self.new }
-        ensures does { Does (λ env. resumed env next.entry) self.old result self.new }
+        ensures does { RunDoes (λ env. resumed env next.entry) self.old result self.new }
     {
         put(&mut self.pending, next)?;
         Ok(None)
@@ -206,7 +203,7 @@ impl<'t> Run<'t, '_> {
         later: Work<'t>,
     ) -> Result<Option<Ending>, AllocError>
         ensures size { Adds (2 + size_of next.entry + size_of later.entry) self.old result self.new }
-        ensures does { Does (λ env rest. resumed env next.entry (resumed env later.entry rest))
+        ensures does { RunDoes (λ env rest. resumed env next.entry (resumed env later.entry rest))
             self.old result self.new }
     {
         put(&mut self.pending, later)?;
@@ -223,7 +220,7 @@ impl<'t> Run<'t, '_> {
     ) -> Result<Option<Ending>, AllocError>
         ensures size { Adds (3 + size_of_expression first.now + size_of_expression second.now + size_of later.entry)
             self.old result self.new }
-        ensures does { Does (λ env. evaluating env first.now second.now later.entry) self.old result self.new }
+        ensures does { RunDoes (λ env. evaluating env first.now second.now later.entry) self.old result self.new }
     {
         put(&mut self.pending, later)?;
         self.plan(Work::Value(first), Work::Value(second))
@@ -237,7 +234,7 @@ impl<'t> Run<'t, '_> {
         later: Work<'t>,
     ) -> Result<Option<Ending>, AllocError>
         ensures size { Adds 0 self.old result self.new }
-        ensures does { Does (λ env. turning_tested env next.entry condition.now later.entry)
+        ensures does { RunDoes (λ env. turning_tested env next.entry condition.now later.entry)
             self.old result self.new }
     {
         if self.turns == 0 {

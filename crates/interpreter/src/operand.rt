@@ -2,16 +2,14 @@ ghost use Rattle.std.specs.Prelude.{◌≡◌, ◌∷◌, OnOk, option_map};
 ghost use Rattle.meaning.specs.Effect.{members_of, number_of};
 ghost use Rattle.operations.specs.Answers.{answered};
 ghost use Rattle.interpreter_state.specs.Views.{operand_seen, place_seen};
-ghost use Rattle.interpreter.specs.Pending.{Does, below_top, giving, giving_number, giving_set, operands_of};
+ghost use Rattle.interpreter.specs.Pending.{RunDoes, below_top, giving, giving_number, giving_set, operands_of};
 ghost use Rattle.interpreter.specs.Pending.{top_in_hand, top_of};
 ghost use Rattle.interpreter.specs.Pending.{top_place, top_row};
 ghost use Rattle.interpreter.specs.Size.{Adds};
 
 use crate::interpreter::Run;
-use interpreter_state::operand::Operand;
-use interpreter_state::store::Place;
-use meaning::outcome::Ending;
-use meaning::store::{Ordinal, Value};
+use interpreter_state::{Operand, Place};
+use meaning::{Ending, Ordinal, Value};
 use operations::ordinals::number_of;
 use operations::sets::members_of;
 use std::alloc::AllocError;
@@ -21,7 +19,7 @@ impl Run<'_, '_> {
     // Goes on with a value, or stops at the site of its error.
     pub(crate) fn go_on(&mut self, value: Result<Value, u32>) -> Result<Option<Ending>, AllocError>
         ensures size { Adds 0 self.old result self.new }
-        ensures does { Does (λ env. giving (answered value)) self.old result self.new }
+        ensures does { RunDoes (λ env. giving (answered value)) self.old result self.new }
     {
         match value {
             Ok(value) => {
@@ -38,7 +36,7 @@ impl Run<'_, '_> {
         number: Result<Ordinal, u32>,
     ) -> Result<Option<Ending>, AllocError>
         ensures size { Adds 0 self.old result self.new }
-        ensures does { Does (λ env. giving_number (answered number)) self.old result self.new }
+        ensures does { RunDoes (λ env. giving_number (answered number)) self.old result self.new }
     {
         match number {
             Ok(number) => {
@@ -55,7 +53,7 @@ impl Run<'_, '_> {
         set: Result<u128, u32>,
     ) -> Result<Option<Ending>, AllocError>
         ensures size { Adds 0 self.old result self.new }
-        ensures does { Does (λ env. giving_set (answered set)) self.old result self.new }
+        ensures does { RunDoes (λ env. giving_set (answered set)) self.old result self.new }
     {
         match set {
             Ok(set) => {

@@ -1,13 +1,12 @@
-ghost use Rattle.interpreter.specs.Pending.{Does, asking, line_passing, resumed};
+ghost use Rattle.interpreter.specs.Pending.{RunDoes, asking, line_passing, resumed};
 ghost use Rattle.interpreter.specs.Size.{Adds, Lightens};
 
 use crate::interpreter::Run;
-use interpreter_state::work::{Work, put};
-use meaning::outcome::Ending;
-use meaning::store::{Ordinal, Value};
+use interpreter_state::{Work, put};
+use meaning::{Ending, Ordinal, Value};
 use std::alloc::AllocError;
 use text_input::InputFault;
-use typed_tree::tree::{InputTest, ReadVariable};
+use typed_tree::{InputTest, ReadVariable};
 
 // The steps that read or ask the input.
 impl<'t> Run<'t, '_> {
@@ -17,7 +16,7 @@ impl<'t> Run<'t, '_> {
         line: Option<u32>,
     ) -> Result<Option<Ending>, AllocError>
         ensures fewer { Lightens (Work.Variables variables.entry line) self.old result self.new }
-        ensures does { Does (λ env. resumed env (Work.Variables variables.entry line)) self.old result self.new }
+        ensures does { RunDoes (λ env. resumed env (Work.Variables variables.entry line)) self.old result self.new }
     {
         match variables.split_first() {
             Some((first, rest)) => {
@@ -35,7 +34,7 @@ impl<'t> Run<'t, '_> {
     // Reads a variable whose place is topmost; what is read has to be a value of its type.
     pub(crate) fn read(&mut self, variable: &'t ReadVariable) -> Result<Option<Ending>, AllocError>
         ensures fewer { Lightens (Work.Read variable.entry) self.old result self.new }
-        ensures does { Does (λ env. resumed env (Work.Read variable.entry)) self.old result self.new }
+        ensures does { RunDoes (λ env. resumed env (Work.Read variable.entry)) self.old result self.new }
     {
         let place = self.popped_place();
         let point = variable.point;
@@ -53,7 +52,7 @@ impl<'t> Run<'t, '_> {
     // Passes the next line end behind a readln.
     fn line(&mut self, line: Option<u32>) -> Result<Option<Ending>, AllocError>
         ensures size { Adds 0 self.old result self.new }
-        ensures does { Does (λ env. line_passing line) self.old result self.new }
+        ensures does { RunDoes (λ env. line_passing line) self.old result self.new }
     {
         let Some(point) = line else {
             return Ok(None);
@@ -69,7 +68,7 @@ impl<'t> Run<'t, '_> {
 
     pub(crate) fn asked(&mut self, asks: InputTest) -> Result<Option<Ending>, AllocError>
         ensures size { Adds 0 self.old result self.new }
-        ensures does { Does (λ env. asking asks) self.old result self.new }
+        ensures does { RunDoes (λ env. asking asks) self.old result self.new }
     {
         match asks {
             InputTest::End => {

@@ -1,15 +1,14 @@
 ghost use Rattle.std.specs.Prelude.{◌+◌, ℕ};
 ghost use Rattle.interpreter_state.specs.declared.work.Rounds.TheVariants.{Between, Behind};
-ghost use Rattle.interpreter.specs.Pending.{Does, assigning, assigning_row, counting_on, forgetting, line_ending};
+ghost use Rattle.interpreter.specs.Pending.{RunDoes, assigning, assigning_row, counting_on, forgetting, line_ending};
 ghost use Rattle.interpreter.specs.Pending.{performing, repeating, resumed, turning_inside, whiling, writing};
 ghost use Rattle.interpreter.specs.Pending.{writing_one, writing_row};
 ghost use Rattle.interpreter.specs.Size.{Adds, Lightens, size_of_assignment, size_of_copying, size_of_expression};
 ghost use Rattle.interpreter.specs.Size.{size_of_parameter, size_of_procedure, size_of_whole, size_of_width};
 
 use crate::interpreter::Run;
-use interpreter_state::work::{Caller, Rounds, Work, put};
-use meaning::outcome::Ending;
-use meaning::store::{Ordinal, Value};
+use interpreter_state::{Caller, Rounds, Work, put};
+use meaning::{Ending, Ordinal, Value};
 use operations::arms::arm_at;
 use operations::ordinals::{
     positive_width, tested_bounds, truth_of, value_toward, width_by_default,
@@ -18,7 +17,7 @@ use operations::rows::length_of;
 use operations::text::{write_ordinal, write_row, write_row_in};
 use std::alloc::AllocError;
 use std::mem;
-use typed_tree::tree::{
+use typed_tree::{
     Assignment, CaseHead, Copying, Expr, ForHead, LoopHead, ProcedureCall, Representation, Stmt,
     Whole, Width, WithRecord, WriteParameter, Written,
 };
@@ -30,7 +29,7 @@ impl<'t> Run<'t, '_> {
         statements: &'t [Stmt],
     ) -> Result<Option<Ending>, AllocError>
         ensures fewer { Lightens (Work.Statements statements.entry) self.old result self.new }
-        ensures does { Does (λ env. resumed env (Work.Statements statements.entry)) self.old result self.new }
+        ensures does { RunDoes (λ env. resumed env (Work.Statements statements.entry)) self.old result self.new }
     {
         match statements.split_first() {
             Some((first, rest)) => self.plan(Work::Statement(first), Work::Statements(rest)),
@@ -40,7 +39,7 @@ impl<'t> Run<'t, '_> {
 
     pub(crate) fn statement(&mut self, statement: &'t Stmt) -> Result<Option<Ending>, AllocError>
         ensures fewer { Lightens (Work.Statement statement.entry) self.old result self.new }
-        ensures does { Does (λ env. resumed env (Work.Statement statement.entry)) self.old result self.new }
+        ensures does { RunDoes (λ env. resumed env (Work.Statement statement.entry)) self.old result self.new }
     {
         match statement {
             Stmt::Empty { .. } => Ok(None),
@@ -83,7 +82,7 @@ impl<'t> Run<'t, '_> {
     // The place of the target and the value, which is stored there.
     fn assignment(&mut self, assignment: &'t Assignment) -> Result<Option<Ending>, AllocError>
         ensures size { Adds (size_of_assignment assignment.now) self.old result self.new }
-        ensures does { Does (λ env. assigning env assignment.now) self.old result self.new }
+        ensures does { RunDoes (λ env. assigning env assignment.now) self.old result self.new }
     {
         put(&mut self.pending, Work::Store(assignment.fits))?;
         self.access(
@@ -96,7 +95,7 @@ impl<'t> Run<'t, '_> {
     // The place of the target and the row of the value, which is stored there.
     fn copying(&mut self, copying: &'t Copying) -> Result<Option<Ending>, AllocError>
         ensures size { Adds (size_of_copying copying.now) self.old result self.new }
-        ensures does { Does (λ env. assigning_row env copying.now) self.old result self.new }
+        ensures does { RunDoes (λ env. assigning_row env copying.now) self.old result self.new }
     {
         put(&mut self.pending, Work::StoreRow(copying.type_id))?;
         self.access(
@@ -112,7 +111,7 @@ impl<'t> Run<'t, '_> {
     // A call whose value is dropped.
     fn procedure(&mut self, procedure: &'t ProcedureCall) -> Result<Option<Ending>, AllocError>
         ensures size { Adds (size_of_procedure procedure.now) self.old result self.new }
-        ensures does { Does (λ env. performing env procedure.now) self.old result self.new }
+        ensures does { RunDoes (λ env. performing env procedure.now) self.old result self.new }
     {
         put(&mut self.pending, Work::Discard)?;
         self.call(&procedure.call, &procedure.actuals)
@@ -124,7 +123,7 @@ impl<'t> Run<'t, '_> {
         alternative: &'t Option<Box<Stmt>>,
     ) -> Result<Option<Ending>, AllocError>
         ensures fewer { Lightens (Work.Choose consequence.entry alternative.entry) self.old result self.new }
-        ensures does { Does (λ env. resumed env (Work.Choose consequence.entry alternative.entry))
+        ensures does { RunDoes (λ env. resumed env (Work.Choose consequence.entry alternative.entry))
             self.old result self.new }
     {
         if truth_of(self.popped()) {
@@ -143,7 +142,7 @@ impl<'t> Run<'t, '_> {
         body: &'t Stmt,
     ) -> Result<Option<Ending>, AllocError>
         ensures size { Adds (2 + size_of_expression head.now.condition) self.old result self.new }
-        ensures does { Does (λ env. whiling env head.now body.now) self.old result self.new }
+        ensures does { RunDoes (λ env. whiling env head.now body.now) self.old result self.new }
     {
         self.plan(Work::Value(&head.condition), Work::WhileTurn { head, body })
     }
@@ -154,7 +153,7 @@ impl<'t> Run<'t, '_> {
         body: &'t Stmt,
     ) -> Result<Option<Ending>, AllocError>
         ensures fewer { Lightens (Work.WhileTurn head.entry body.entry) self.old result self.new }
-        ensures does { Does (λ env. resumed env (Work.WhileTurn head.entry body.entry)) self.old result self.new }
+        ensures does { RunDoes (λ env. resumed env (Work.WhileTurn head.entry body.entry)) self.old result self.new }
     {
         if truth_of(self.popped()) {
             self.tested_turn(
@@ -174,7 +173,7 @@ impl<'t> Run<'t, '_> {
         statements: &'t Vec<Stmt>,
     ) -> Result<Option<Ending>, AllocError>
         ensures size { Adds 0 self.old result self.new }
-        ensures does { Does (λ env. repeating env head.now statements.now.items) self.old result self.new }
+        ensures does { RunDoes (λ env. repeating env head.now statements.now.items) self.old result self.new }
     {
         self.tested_turn(
             Work::Statements(statements),
@@ -189,7 +188,7 @@ impl<'t> Run<'t, '_> {
         statements: &'t Vec<Stmt>,
     ) -> Result<Option<Ending>, AllocError>
         ensures fewer { Lightens (Work.Unless head.entry statements.entry) self.old result self.new }
-        ensures does { Does (λ env. resumed env (Work.Unless head.entry statements.entry)) self.old result self.new }
+        ensures does { RunDoes (λ env. resumed env (Work.Unless head.entry statements.entry)) self.old result self.new }
     {
         if truth_of(self.popped()) {
             Ok(None)
@@ -205,7 +204,7 @@ impl<'t> Run<'t, '_> {
         body: &'t Stmt,
     ) -> Result<Option<Ending>, AllocError>
         ensures fewer { Lightens (Work.For head.entry rounds body.entry) self.old result self.new }
-        ensures does { Does (λ env. resumed env (Work.For head.entry rounds body.entry)) self.old result self.new }
+        ensures does { RunDoes (λ env. resumed env (Work.For head.entry rounds body.entry)) self.old result self.new }
     {
         match rounds {
             Rounds::Between => self.bounds(head, body),
@@ -218,7 +217,7 @@ impl<'t> Run<'t, '_> {
     // The rounds of a for between its bounds.
     fn bounds(&mut self, head: &'t ForHead, body: &'t Stmt) -> Result<Option<Ending>, AllocError>
         ensures fewer { Lightens (Work.For head.entry Between body.entry) self.old result self.new }
-        ensures does { Does (λ env. resumed env (Work.For head.entry Between body.entry)) self.old result self.new }
+        ensures does { RunDoes (λ env. resumed env (Work.For head.entry Between body.entry)) self.old result self.new }
     {
         let last = self.popped_number();
         let first = self.popped_number();
@@ -239,7 +238,7 @@ impl<'t> Run<'t, '_> {
         body: &'t Stmt,
     ) -> Result<Option<Ending>, AllocError>
         ensures size { Adds 0 self.old result self.new }
-        ensures does { Does (λ env. counting_on env head.now first value last body.now) self.old result self.new }
+        ensures does { RunDoes (λ env. counting_on env head.now first value last body.now) self.old result self.new }
     {
         let place = self.place(head.control)?;
         self.keep(place, Value::Number(Ordinal::new(value)))?;
@@ -256,7 +255,7 @@ impl<'t> Run<'t, '_> {
     // A turn of a for, while what stands behind it waits; with none left the run ends.
     fn for_turn(&mut self, body: &'t Stmt, later: Work<'t>) -> Result<Option<Ending>, AllocError>
         ensures size { Adds 0 self.old result self.new }
-        ensures does { (finished : ℕ) → Does (λ env. turning_inside env finished body.now later.entry)
+        ensures does { (finished : ℕ) → RunDoes (λ env. turning_inside env finished body.now later.entry)
             self.old result self.new }
     {
         if self.turns == 0 {
@@ -279,7 +278,7 @@ impl<'t> Run<'t, '_> {
         body: &'t Stmt,
     ) -> Result<Option<Ending>, AllocError>
         ensures fewer { Lightens (Work.For head.entry (Behind first value last) body.entry) self.old result self.new }
-        ensures does { Does (λ env. resumed env (Work.For head.entry (Behind first value last) body.entry))
+        ensures does { RunDoes (λ env. resumed env (Work.For head.entry (Behind first value last) body.entry))
             self.old result self.new }
     {
         match value_toward(head.direction, last, value) {
@@ -291,7 +290,7 @@ impl<'t> Run<'t, '_> {
     // Behind a for its control variable is undefined.
     fn forget(&mut self, control: u32) -> Result<Option<Ending>, AllocError>
         ensures size { Adds 0 self.old result self.new }
-        ensures does { Does (λ env. forgetting (env.visible.variables control)) self.old result self.new }
+        ensures does { RunDoes (λ env. forgetting (env.visible.variables control)) self.old result self.new }
     {
         let place = self.place(control)?;
         self.lose(&place);
@@ -304,7 +303,7 @@ impl<'t> Run<'t, '_> {
         arms: &'t Vec<Stmt>,
     ) -> Result<Option<Ending>, AllocError>
         ensures fewer { Lightens (Work.Case head.entry arms.entry) self.old result self.new }
-        ensures does { Does (λ env. resumed env (Work.Case head.entry arms.entry)) self.old result self.new }
+        ensures does { RunDoes (λ env. resumed env (Work.Case head.entry arms.entry)) self.old result self.new }
     {
         let index = self.popped_number();
         match arm_at(&head.constants, arms, index) {
@@ -320,7 +319,7 @@ impl<'t> Run<'t, '_> {
         body: &'t Box<Stmt>,
     ) -> Result<Option<Ending>, AllocError>
         ensures fewer { Lightens (Work.With records.entry body.entry) self.old result self.new }
-        ensures does { Does (λ env. resumed env (Work.With records.entry body.entry)) self.old result self.new }
+        ensures does { RunDoes (λ env. resumed env (Work.With records.entry body.entry)) self.old result self.new }
     {
         match records.split_first() {
             Some((first, rest)) => self.access(
@@ -342,7 +341,7 @@ impl<'t> Run<'t, '_> {
         body: &'t Box<Stmt>,
     ) -> Result<Option<Ending>, AllocError>
         ensures fewer { Lightens (Work.Within records.entry body.entry) self.old result self.new }
-        ensures does { Does (λ env. resumed env (Work.Within records.entry body.entry)) self.old result self.new }
+        ensures does { RunDoes (λ env. resumed env (Work.Within records.entry body.entry)) self.old result self.new }
     {
         let place = self.popped_place();
         self.activation.open(place)?;
@@ -357,7 +356,8 @@ impl<'t> Run<'t, '_> {
         ends_line: bool,
     ) -> Result<Option<Ending>, AllocError>
         ensures fewer { Lightens (Work.Parameters parameters.entry ends_line) self.old result self.new }
-        ensures does { Does (λ env. resumed env (Work.Parameters parameters.entry ends_line)) self.old result self.new }
+        ensures does { RunDoes (λ env. resumed env (Work.Parameters parameters.entry ends_line)) self.old result
+            self.new }
     {
         match parameters.split_first() {
             Some((first, rest)) => {
@@ -377,7 +377,7 @@ impl<'t> Run<'t, '_> {
     // A value that is written.
     fn parameter(&mut self, parameter: &'t WriteParameter) -> Result<Option<Ending>, AllocError>
         ensures size { Adds (size_of_parameter parameter.now) self.old result self.new }
-        ensures does { Does (λ env. writing_one env parameter.now) self.old result self.new }
+        ensures does { RunDoes (λ env. writing_one env parameter.now) self.old result self.new }
     {
         match &parameter.value {
             Written::Ordinal {
@@ -396,7 +396,7 @@ impl<'t> Run<'t, '_> {
         width: &'t Option<Width>,
     ) -> Result<Option<Ending>, AllocError>
         ensures size { Adds (3 + size_of_expression value.now + size_of_width width.now) self.old result self.new }
-        ensures does { Does (λ env. writing env value.now representation width.now) self.old result self.new }
+        ensures does { RunDoes (λ env. writing env value.now representation width.now) self.old result self.new }
     {
         put(&mut self.pending, Work::Write(representation))?;
         self.plan(
@@ -417,7 +417,7 @@ impl<'t> Run<'t, '_> {
     ) -> Result<Option<Ending>, AllocError>
         ensures size { Adds (2 + size_of_whole value.now indexes.now + size_of_width width.now)
             self.old result self.new }
-        ensures does { Does (λ env. writing_row env value.now indexes.now width.now) self.old result self.new }
+        ensures does { RunDoes (λ env. writing_row env value.now indexes.now width.now) self.old result self.new }
     {
         match width {
             Some(width) => {
@@ -440,7 +440,7 @@ impl<'t> Run<'t, '_> {
         representation: Representation,
     ) -> Result<Option<Ending>, AllocError>
         ensures fewer { Lightens (Work.Width width.entry representation) self.old result self.new }
-        ensures does { Does (λ env. resumed env (Work.Width width.entry representation)) self.old result self.new }
+        ensures does { RunDoes (λ env. resumed env (Work.Width width.entry representation)) self.old result self.new }
     {
         match width {
             Some(width) => self.plan(
@@ -453,7 +453,7 @@ impl<'t> Run<'t, '_> {
 
     pub(crate) fn width_test(&mut self, site: u32) -> Result<Option<Ending>, AllocError>
         ensures fewer { Lightens (Work.WidthTest site) self.old result self.new }
-        ensures does { Does (λ env. resumed env (Work.WidthTest site)) self.old result self.new }
+        ensures does { RunDoes (λ env. resumed env (Work.WidthTest site)) self.old result self.new }
     {
         let width = self.popped_number();
         self.go_on_with(positive_width(width, site))
@@ -464,7 +464,7 @@ impl<'t> Run<'t, '_> {
         representation: Representation,
     ) -> Result<Option<Ending>, AllocError>
         ensures fewer { Lightens (Work.Write representation) self.old result self.new }
-        ensures does { Does (λ env. resumed env (Work.Write representation)) self.old result self.new }
+        ensures does { RunDoes (λ env. resumed env (Work.Write representation)) self.old result self.new }
     {
         let width = self.popped_number();
         let number = self.popped_number();
@@ -474,7 +474,7 @@ impl<'t> Run<'t, '_> {
 
     pub(crate) fn write_row(&mut self) -> Result<Option<Ending>, AllocError>
         ensures fewer { Lightens Work.WriteRow self.old result self.new }
-        ensures does { Does (λ env. resumed env Work.WriteRow) self.old result self.new }
+        ensures does { RunDoes (λ env. resumed env Work.WriteRow) self.old result self.new }
     {
         let width = self.popped_number();
         let row = self.popped_row();
@@ -484,7 +484,7 @@ impl<'t> Run<'t, '_> {
 
     pub(crate) fn write_row_in(&mut self, places: usize) -> Result<Option<Ending>, AllocError>
         ensures fewer { Lightens (Work.WriteRowIn places) self.old result self.new }
-        ensures does { Does (λ env. resumed env (Work.WriteRowIn places)) self.old result self.new }
+        ensures does { RunDoes (λ env. resumed env (Work.WriteRowIn places)) self.old result self.new }
     {
         let row = self.popped_row();
         write_row_in(&mut self.output, &row, places)?;
@@ -493,7 +493,7 @@ impl<'t> Run<'t, '_> {
 
     fn line_end(&mut self, ends_line: bool) -> Result<Option<Ending>, AllocError>
         ensures size { Adds 0 self.old result self.new }
-        ensures does { Does (λ env. line_ending ends_line) self.old result self.new }
+        ensures does { RunDoes (λ env. line_ending ends_line) self.old result self.new }
     {
         if ends_line {
             self.output.push(b'\n')?;

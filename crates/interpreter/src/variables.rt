@@ -6,10 +6,10 @@ ghost use Rattle.interpreter_state.specs.Views.{place_of, place_seen, start_of, 
 ghost use Rattle.interpreter.specs.Pending.{StoreAgrees, held_all, items_of, kept_all};
 
 use crate::interpreter::Run;
-use interpreter_state::store::{Place, component as component_of};
-use meaning::store::Value;
+use interpreter_state::{Place, component as component_of};
+use meaning::Value;
 use std::alloc::AllocError;
-use typed_tree::tree::Access;
+use typed_tree::Access;
 use types::TypeId;
 
 // The variables and their components.

@@ -12,8 +12,8 @@ use Rattle.typed_tree.specs.Accesses.{Origin, AtVariable, AtRecord}
 use Rattle.typed_tree.specs.declared.tree.Variable.{Variable as DeclaredVariable}
 use Rattle.typed_tree.specs.declared.tree.VariableKind.{VariableKind}
 use Rattle.typed_tree.specs.declared.tree.VariableKind.TheVariants as kind
-use Rattle.meaning.specs.declared.store.Value.{Value}
-use Rattle.meaning.specs.declared.store.Value.TheVariants.{Number}
+use Rattle.meaning.specs.declared.value.Value.{Value}
+use Rattle.meaning.specs.declared.value.Value.TheVariants.{Number}
 use Rattle.meaning.specs.Store.{Place}
 use Rattle.meaning.specs.Meaning.{Argument, OfValue, OfRow, OfPlace, own_place, place_at, place_passed}
 use Rattle.interpreter_state.specs.declared.input.Input.{Input}

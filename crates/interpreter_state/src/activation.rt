@@ -7,10 +7,9 @@ ghost use Rattle.meaning.specs.Meaning.{place_at};
 ghost use Rattle.meaning.specs.Store.{Place as MeantPlace};
 ghost use Rattle.interpreter_state.specs.Views.{place_seen, records_in, reference_seen, seen_as, start_of, visible_in};
 
-use crate::operand::Operand;
-use crate::store::{Place, copied};
+use crate::{Operand, Place, copied};
 use std::alloc::{AllocError, Global};
-use typed_tree::tree::{Access, Base, FunctionResult, Heading, Variable, VariableKind};
+use typed_tree::{Access, Base, FunctionResult, Heading, Variable, VariableKind};
 
 /// What was passed for a formal parameter.
 #[derive(Drop)]

@@ -4,7 +4,7 @@ ghost use Rattle.text_input.specs.Input.{unsigned_at};
 ghost use Rattle.interpreter_state.specs.Views.{character_read, left_in, looked, passed, read_by, told};
 
 use text_input::InputFault;
-use typed_tree::tree::Readable;
+use typed_tree::Readable;
 
 // The number at which one is held that is greater than each of type integer.
 const TOO_LARGE: u64 = 2_147_483_648;

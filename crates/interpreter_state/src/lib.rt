@@ -7,3 +7,7 @@ pub mod input;
 pub mod operand;
 pub mod store;
 pub mod work;
+
+pub use operand::Operand;
+pub use store::{Place, component, copied, part};
+pub use work::{Caller, Rounds, Work, put};

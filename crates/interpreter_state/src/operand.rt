@@ -2,8 +2,8 @@ ghost use Rattle.std.specs.Prelude.{◌≡◌, IfOk, option_map};
 ghost use Rattle.meaning.specs.Meaning.{place_passed};
 ghost use Rattle.interpreter_state.specs.Views.{operand_seen, place_seen, row_in, value_in};
 
-use crate::store::{Place, copied};
-use meaning::store::{Ordinal, Value};
+use crate::{Place, copied};
+use meaning::{Ordinal, Value};
 use std::alloc::{AllocError, Global};
 
 /// What a run has in hand, on a stack.

@@ -2,7 +2,7 @@ ghost use Rattle.std.specs.Prelude.{◌≡◌, [], ◌∷◌, ◌++◌, OnOk};
 
 use crate::activation::Activation;
 use std::alloc::AllocError;
-use typed_tree::tree::{
+use typed_tree::{
     CaseHead, Designator, Dyadic, Expr, ForHead, Link, LoopHead, Monadic, Passed, RangeTest,
     ReadVariable, Relation, Representation, Selector, Stmt, Whole, Width, WithRecord,
     WriteParameter,

@@ -1,6 +1,5 @@
 use crate::sources::resolved;
-use certificate::writer::read_again;
-use certificate::{read, write};
+use certificate::{read, read_again, write};
 use plain_certificate::widest;
 use std::alloc::Global;
 use std::test::Fail;

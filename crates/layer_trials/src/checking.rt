@@ -1,7 +1,7 @@
 use crate::sources::tree_of;
 use cert_checker::{Verdict, check};
 use certificate::Certificate;
-use domain::versions::Version;
+use domain::Version;
 use std::alloc::Global;
 use std::test::Fail;
 

@@ -1,7 +1,6 @@
 use crate::sources::resolved;
 use interpreter::interpret;
-use meaning::laws;
-use meaning::outcome::{Ending, Outcome};
+use meaning::{Ending, Outcome, laws};
 use std::alloc::{AllocError, Global};
 use std::test::Fail;
 use test_words::rows::all_hold;

@@ -1,8 +1,8 @@
-use pcode_assembler::code::Code;
-use prepared_steps::steps::{Deed, Prepared};
+use pcode_assembler::Code;
+use prepared_steps::{Deed, Prepared, SetDeed};
 use preparer::prepare::prepare;
+use stack_machine::Machine;
 use stack_machine::bytes::Counted;
-use stack_machine::machine::Machine;
 use std::alloc::Global;
 use std::test::Fail;
 use test_words::assembling::assembled;
@@ -30,22 +30,66 @@ const ROUND: &str =
     "ent 3 4; ldc 1; str 0 4; ldc 3; str 0 5; label 1; lod 0 4; str 0 6; lod 0 4; lod 0 5; neq; fjp 2; \
     lod 0 4; ldc 1; adi; str 0 4; ujp 1; label 2; stp";
 
-/// Whether a step that does something begins at a place.
-fn begins(prepared: &Prepared, place: usize) -> bool {
-    for (step, origin) in prepared.steps.iter().zip(&prepared.origins) {
-        if origin.place as usize == place && !matches!(step.deed, Deed::Leave) {
-            return true;
-        }
+/// `s := [] + [1] + [1..3]; if (s = s) and (2 in s) then begin t := s - s; s := [1] end`, where `s` is reached by its
+/// address first in the difference, and last.
+const SETS: &str =
+    "ent 2 4; lds 00000000000000000000000000000000; ldc 1; sgs; uni; ldc 1; ldc 3; srg; uni; str 0 4; \
+    lod 0 4; lod 0 4; seq; fjp 1; ldc 2; lod 0 4; inn; fjp 1; lda 0 4; ind 0; lod 0 4; dif; str 0 5; \
+    lda 0 4; ldc 1; sgs; sto; label 1; stp";
+
+/// `x := 1; p(x); q(x, x - 1); r(x, x, x)`.
+const CALLS: &str =
+    "ent 1 8; ldc 1; str 0 4; mst 0; lod 0 4; cup 1 1; mst 0; lod 0 4; lod 0 4; ldc 1; sbi; cup 2 2; \
+    mst 0; lod 0 4; lod 0 4; lod 0 4; cup 3 3; stp; \
+    label 1; ent 0 4; ret 0; label 2; ent 0 4; ret 0; label 3; ent 0 4; ret 0";
+
+/// What stands behind a loop whose variable becomes undefined.
+const LOOP_END: &str =
+    "ent 1 4; ldc 1; ldc 2; ujp 1; label 1; str 0 4; str 0 4; lod 0 2; str 0 4; stp";
+
+/// The mark of a step: how many numbers a whole call passes, `u` where a variable becomes undefined, a letter for each
+/// deed with sets, and else `s`.
+fn mark_of(deed: &Deed) -> &'static str {
+    match *deed {
+        Deed::CallWith(..) => "1",
+        Deed::CallWithTwo(..) => "2",
+        Deed::CallWithThree(..) => "3",
+        Deed::Undefine(..) => "u",
+        Deed::Set(deed) => mark_of_set(deed),
+        _ => "s",
     }
-    false
 }
 
-/// A mark for each instruction: `s` where a step begins that does something, and else `.`.
+fn mark_of_set(deed: SetDeed) -> &'static str {
+    match deed {
+        SetDeed::Empty(_) => "e",
+        SetDeed::One(_) => "o",
+        SetDeed::Range(_) => "r",
+        SetDeed::Two(..) => "t",
+        SetDeed::Stand(..) => "w",
+        SetDeed::Has(_) => "h",
+        SetDeed::Copy(..) => "c",
+        SetDeed::Load(..) => "l",
+        SetDeed::Store(_) => "p",
+    }
+}
+
+/// The mark of the step that begins at a place and does something, or `.` if none does.
+fn mark_at(prepared: &Prepared, place: usize) -> &'static str {
+    for (step, origin) in prepared.steps.iter().zip(&prepared.origins) {
+        if origin.place as usize == place && !matches!(step.deed, Deed::Leave) {
+            return mark_of(&step.deed);
+        }
+    }
+    "."
+}
+
+/// A mark for each instruction.
 fn marks(alloc: Global, code: &Code) -> Result<String, Fail> {
     let prepared = prepare(alloc, code)?;
     let mut told = String::new(alloc);
     for place in 0..code.instructions.len() {
-        told.push_str(if begins(&prepared, place) { "s" } else { "." })?;
+        told.push_str(mark_at(&prepared, place))?;
     }
     Ok(told)
 }
@@ -54,13 +98,16 @@ fn row_told(alloc: Global, lines: &&str) -> Result<String, Fail> {
     marks(alloc, &assembled(alloc, lines)?)
 }
 
-static ROWS: [(&str, &str); 5] = [
+static ROWS: [(&str, &str); 8] = [
     (LOOP, ".s.s.s....."),
     (LINE, ".ss..."),
     // A check is part of the step of its value.
     (CHECKED, ".s.s.....s..."),
     (INDEXED, ".s.s......."),
     (ROUND, ".s.s.s.s........."),
+    (SETS, ".esotssrtcccwsschsslctcssop."),
+    (CALLS, ".s.1..2.....3......s.s.s"),
+    (LOOP_END, ".ss.u...."),
 ];
 
 #[test]

@@ -1,7 +1,4 @@
-use domain::Domain;
-use domain::growth::Growth;
-use domain::hull::Hull;
-use domain::interval::Interval;
+use domain::{Domain, Growth, Hull, Interval};
 use std::alloc::{AllocError, Global};
 use std::test::Fail;
 use test_words::rows::all_hold;

@@ -1,6 +1,5 @@
 use check_remover::remove::remove;
-use pcode_assembler::code::{Code, Site};
-use pcode_assembler::instr::Instr;
+use pcode_assembler::{Code, Instr, Site};
 use std::alloc::{AllocError, Global};
 use std::test::Fail;
 use test_words::assembling::assembled;

@@ -1,6 +1,5 @@
 use stack_machine::bytes::{Counted, Feed};
-use stack_machine::laws;
-use stack_machine::machine::Machine;
+use stack_machine::{Machine, laws};
 use std::alloc::{AllocError, Global};
 use std::io;
 use std::test::Fail;

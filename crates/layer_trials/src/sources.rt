@@ -3,7 +3,7 @@ use parser::parse;
 use resolver::resolve;
 use std::alloc::Global;
 use std::test::Fail;
-use typed_tree::tree::Tree;
+use typed_tree::Tree;
 
 /// The typed tree of a source.
 pub(crate) fn resolved(alloc: Global, source: &str) -> Result<Tree, Fail> {

@@ -8,7 +8,7 @@ use Rattle.lexer.specs.declared.piece.Piece.{Piece}
 use Rattle.lexer.specs.declared.piece.Piece.TheVariants as piece
 use Rattle.lexer.specs.declared.token.Token.{Token}
 use Rattle.lexer.specs.Piece.{piece_at}
-use Rattle.lexer.specs.Tokens.{Lexeme, Leaves, lexemes, lexemes_of, lexeme_of}
+use Rattle.lexer.specs.Tokens.{Lexeme, TokensLeave, lexemes, lexemes_of, lexeme_of}
 use Rattle.lexer.proofs.Cuts.{piece_cut}
 use Rattle.std.proofs.Common.{Ok}
 
@@ -28,7 +28,7 @@ piece_order : (q place next : Place) (found : Piece) (bytes : List ℕ) (others 
 piece_order q place next piece.Separator bytes others h k more = more q (comes_still q place next h k)
 piece_order q place next (piece.Token kind) bytes others h k more = (h, more place k)
 
-order_behind : (text : List ℕ) (ps : List (Piece × ℕ)) (rest : List ℕ) (place q : Place) → Leaves text ps rest → IsTrue (comes_before q place)
+order_behind : (text : List ℕ) (ps : List (Piece × ℕ)) (rest : List ℕ) (place q : Place) → TokensLeave text ps rest → IsTrue (comes_before q place)
     → ArePlacesInOrder (q ∷ lexeme_places (lexemes place text ps))
 order_behind text [] rest place q h k = tt
 order_behind text (p ∷ ps) rest place q h k =
@@ -45,7 +45,7 @@ places_of [] = refl
 places_of (t ∷ ts) = ap (λ ps. t.place ∷ ps) (places_of ts)
 
 -- the places of the tokens among pieces of a text are in order
-pub tokens_in_order : (text : List ℕ) (tokens : List Token) (ps : List (Piece × ℕ)) (rest : List ℕ) → Leaves text ps rest
+pub tokens_in_order : (text : List ℕ) (tokens : List Token) (ps : List (Piece × ℕ)) (rest : List ℕ) → TokensLeave text ps rest
     → map lexeme_of tokens ≡ lexemes start text ps
     → ArePlacesInOrder (map (λ token. token.place) tokens)
 tokens_in_order text tokens ps rest h e =

@@ -7,16 +7,16 @@ use Rattle.lexer.specs.declared.fault.LexFault.TheVariants.{Memory, UnknownByte,
 use Rattle.lexer.specs.declared.fault.LexFault.TheVariants.{LargeNumber, TouchingLetter, LongText, StringByte}
 
 -- the number of a fault behind the letter L, and 0 for want of memory
-abbrev pub number_of : LexFault → ℕ
-number_of (Memory _) = 0
-number_of (UnknownByte p) = 1
-number_of (OpenComment p) = 2
-number_of (OpenString p) = 3
-number_of (EmptyString p) = 4
-number_of (LargeNumber p) = 5
-number_of (TouchingLetter p) = 6
-number_of (LongText p) = 7
-number_of (StringByte p) = 8
+abbrev pub code_of : LexFault → ℕ
+code_of (Memory _) = 0
+code_of (UnknownByte p) = 1
+code_of (OpenComment p) = 2
+code_of (OpenString p) = 3
+code_of (EmptyString p) = 4
+code_of (LargeNumber p) = 5
+code_of (TouchingLetter p) = 6
+code_of (LongText p) = 7
+code_of (StringByte p) = 8
 
 -- where a fault stands in the text
 abbrev pub place_of_fault : LexFault → Option Place

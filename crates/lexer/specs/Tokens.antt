@@ -29,9 +29,9 @@ abbrev pub lexeme_of : Token → Lexeme
 lexeme_of t = record { kind = t.kind; text = t.text.now; place = t.place }
 
 -- a text begins with these pieces, and then the rest is left
-abbrev pub Leaves : List ℕ → List (Piece × ℕ) → List ℕ → Type 0
-Leaves text [] rest = text ≡ rest
-Leaves text (p ∷ ps) rest = (piece_at text ≡ Ok p) × Leaves (drop p.1 text) ps rest
+abbrev pub TokensLeave : List ℕ → List (Piece × ℕ) → List ℕ → Type 0
+TokensLeave text [] rest = text ≡ rest
+TokensLeave text (p ∷ ps) rest = (piece_at text ≡ Ok p) × TokensLeave (drop p.1 text) ps rest
 
 -- the token that a piece is, if it is one
 abbrev pub lexemes_of : Piece → List ℕ → Place → List Lexeme
@@ -47,7 +47,7 @@ lexemes place text (p ∷ ps) =
 -- the text is a row of pieces, and these are the tokens among them
 abbrev pub IsTokenList : List ℕ → List Lexeme → Type 0
 IsTokenList text list =
-    (length text ≤ most) × (pieces : List (Piece × ℕ)) × Leaves text pieces [] × (list ≡ lexemes start text pieces)
+    (length text ≤ most) × (pieces : List (Piece × ℕ)) × TokensLeave text pieces [] × (list ≡ lexemes start text pieces)
 
 -- a refusal as a fault of the whole text, at its place
 abbrev pub fault_of : Refusal → Place → LexFault
@@ -63,7 +63,7 @@ fault_of (refusal.StringByte offset) place = fault.StringByte place
 -- before the rest and past those of the rest that stand before it.
 abbrev pub StopsAt : List ℕ → LexFault → Type 0
 StopsAt text found =
-    (pieces : List (Piece × ℕ)) × (rest : List ℕ) × Leaves text pieces rest × (rest ≢ []) × (why : Refusal)
+    (pieces : List (Piece × ℕ)) × (rest : List ℕ) × TokensLeave text pieces rest × (rest ≢ []) × (why : Refusal)
     × (piece_at rest ≡ Err why)
     × (found ≡ fault_of why (place_of (take (length text - length rest + offset_of why) text)))
 

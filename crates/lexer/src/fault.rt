@@ -39,11 +39,11 @@ pub enum LexFault {
 }
 
 impl LexFault {
-    ghost use Rattle.lexer.specs.LexFault.{number_of, place_of_fault};
+    ghost use Rattle.lexer.specs.LexFault.{code_of, place_of_fault};
 
     /// Its number behind the letter L, from 1 to 8, or 0 for `Memory`.
     pub fn number(&self) -> u8
-        ensures { result ≡ number_of self.now }
+        ensures { result ≡ code_of self.now }
     {
         match self {
             LexFault::Memory(_) => 0,

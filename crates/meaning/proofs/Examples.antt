@@ -32,8 +32,8 @@ use Rattle.typed_tree.specs.declared.tree.VariableKind.{VariableKind}
 use Rattle.typed_tree.specs.declared.tree.VariableKind.TheVariants as kind
 use Rattle.meaning.specs.declared.outcome.Ending.{Ending}
 use Rattle.meaning.specs.declared.outcome.Ending.TheVariants.{Error, Finished, More}
-use Rattle.meaning.specs.declared.store.Value.{Value}
-use Rattle.meaning.specs.declared.store.Value.TheVariants.{Number, Members}
+use Rattle.meaning.specs.declared.value.Value.{Value}
+use Rattle.meaning.specs.declared.value.Value.TheVariants.{Number, Members}
 use Rattle.types.specs.declared.form.Step.{Step}
 use Rattle.types.specs.declared.form.Step.TheVariants.{Element, Field}
 use Rattle.meaning.specs.Store.{Place, stored, written, undefined, overlap}

@@ -19,8 +19,8 @@ use Rattle.typed_tree.specs.declared.tree.Expr.TheOpen.Expr-F.{Variable as Varia
 use Rattle.typed_tree.specs.declared.tree.Expr.TheOpen.Expr-F.{Call as Call-F, Set as Set-F}
 use Rattle.typed_tree.specs.declared.tree.Expr.TheOpen.Passed-F.{Value as Value-F, Whole as Whole-F, Reference as Reference-F}
 use Rattle.typed_tree.specs.declared.tree.Expr.TheFolds.{fold-roll-Expr, fold-roll-Passed, fold_out-Link}
-use Rattle.meaning.specs.declared.store.Value.{Value}
-use Rattle.meaning.specs.declared.store.Value.TheVariants.{Number, Members}
+use Rattle.meaning.specs.declared.value.Value.{Value}
+use Rattle.meaning.specs.declared.value.Value.TheVariants.{Number, Members}
 use Rattle.meaning.specs.Effect.{◌>>=◌, give, enter, fetch, is_in, number_of, require}
 use Rattle.meaning.specs.Meaning.{Surroundings, Evaluation, Passing, Combination, OfValue, OfRow, OfPlace, value_step, passed_step, link_step, operated}
 use Rattle.meaning.specs.Meaning.{compared, gathered, in_turn, accessed, operated_both, whole_of}

@@ -12,7 +12,7 @@ use Rattle.typed_tree.specs.declared.tree.VariableKind.TheVariants as kind
 use Rattle.typed_tree.specs.WellFormed.{is_one_of}
 use Rattle.meaning.specs.declared.outcome.Ending.{Ending}
 use Rattle.meaning.specs.declared.outcome.Ending.TheVariants as ending
-use Rattle.meaning.specs.declared.store.Value.{Value}
+use Rattle.meaning.specs.declared.value.Value.{Value}
 use Rattle.meaning.specs.Store.{Environment, Place, held}
 use Rattle.meaning.specs.Effect.{State, Visit, Reply, Gives, Stops, Action, Round, ◌>>=◌, and_then, give, stop, enter, take_turn, use_turn, begin_with, begin}
 use Rattle.meaning.specs.Effect.{living_now, end_with, another, looping, looped, fetched, fetch, store, undefine, write, taken, take_in, at_end}

@@ -4,7 +4,7 @@ use Rattle.typed_tree.specs.declared.tree.Expr.{Expr}
 use Rattle.typed_tree.specs.declared.tree.Link.{Link}
 use Rattle.typed_tree.specs.declared.tree.Expr.TheVariants.{Chain}
 use Rattle.meaning.specs.declared.outcome.Ending.{Ending}
-use Rattle.meaning.specs.declared.store.Value.{Value}
+use Rattle.meaning.specs.declared.value.Value.{Value}
 use Rattle.meaning.specs.Effect.{State, Reply, Stops, and_then}
 use Rattle.meaning.specs.Meaning.{Surroundings, in_turn, value_of, link_of}
 use Rattle.meaning.proofs.Expressions.{value-Chain}

@@ -3,8 +3,8 @@
 use Rattle.std.proofs.Common.{◌≡◌, ℕ, ℤ, zero, suc, ◌≤◌, ◌<◌, Bool, true, false, Option, Some, None, arith, refl, if◌then◌else◌}
 use Rattle.typed_tree.specs.declared.tree.ForHead.{ForHead}
 use Rattle.meaning.specs.declared.outcome.Ending.TheVariants.{More}
-use Rattle.meaning.specs.declared.store.Value.{Value}
-use Rattle.meaning.specs.declared.store.Value.TheVariants.{Number}
+use Rattle.meaning.specs.declared.value.Value.{Value}
+use Rattle.meaning.specs.declared.value.Value.TheVariants.{Number}
 use Rattle.meaning.specs.Effect.{State, Reply, Gives, Stops, Action, Round, ◌>>=◌, and_then, give, stop, take_turn, use_turn, another, looping, looped, store}
 use Rattle.meaning.specs.Meaning.{Surroundings, Evaluation, Execution, is_so, turn_if, while_round, repeat_round, for_round, for_turn}
 use Rattle.meaning.specs.Counting.{value_behind}

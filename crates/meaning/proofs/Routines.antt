@@ -40,7 +40,7 @@ use Rattle.typed_tree.specs.declared.tree.Stmt.TheFolds.{map-Stmt, fold-roll-Stm
 use Rattle.typed_tree.specs.declared.tree.Stmt.TheOpen.{Stmt-F}
 use Rattle.typed_tree.specs.declared.tree.Stmt.TheViews.{roll-Stmt}
 use Rattle.meaning.specs.declared.outcome.Ending.TheVariants.{Error, Finished, More}
-use Rattle.meaning.specs.declared.store.Value.{Value}
+use Rattle.meaning.specs.declared.value.Value.{Value}
 use Rattle.meaning.specs.Effect.{State}
 use Rattle.meaning.specs.Meaning.{Surroundings, value_of, passing_of, link_of, Evaluation, Passing, Combination, Execution, value_step, passed_step, link_step}
 use Rattle.meaning.specs.Meaning.{effect_step, effect_of, meaning, run}

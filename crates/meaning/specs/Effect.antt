@@ -12,8 +12,8 @@ use Rattle.typed_tree.specs.declared.tree.Representation.{Representation}
 use Rattle.typed_tree.specs.declared.tree.Representation.TheVariants as representation
 use Rattle.meaning.specs.declared.outcome.Ending.{Ending}
 use Rattle.meaning.specs.declared.outcome.Ending.TheVariants as ending
-use Rattle.meaning.specs.declared.store.Value.{Value}
-use Rattle.meaning.specs.declared.store.Value.TheVariants.{Number, Members}
+use Rattle.meaning.specs.declared.value.Value.{Value}
+use Rattle.meaning.specs.declared.value.Value.TheVariants.{Number, Members}
 use Rattle.meaning.specs.Integers.{byte_of, is_integer_number, is_true, is_within}
 use Rattle.meaning.specs.Store.{Environment, Place, Store, held, kept, forgotten, part}
 

@@ -17,8 +17,8 @@ use Rattle.typed_tree.specs.declared.tree.Scalar.TheVariants as scalar
 use Rattle.typed_tree.specs.Accesses.{lying}
 use Rattle.typed_tree.specs.Records.{OpenRecord}
 use Rattle.typed_tree.specs.WellFormed.{Outline}
-use Rattle.meaning.specs.declared.store.Value.{Value}
-use Rattle.meaning.specs.declared.store.Value.TheVariants.{Members, Number}
+use Rattle.meaning.specs.declared.value.Value.{Value}
+use Rattle.meaning.specs.declared.value.Value.TheVariants.{Members, Number}
 use Rattle.meaning.specs.Store.{Environment, Place, part}
 
 -- a value is a number, or a set

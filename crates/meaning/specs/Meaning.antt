@@ -78,8 +78,8 @@ use Rattle.typed_tree.specs.Accesses.{Origin, AtVariable, AtRecord, origin_of}
 use Rattle.typed_tree.specs.WellFormed.{is_one_of, length_of}
 use Rattle.meaning.specs.declared.outcome.Ending.{Ending}
 use Rattle.meaning.specs.declared.outcome.Ending.TheVariants as ending
-use Rattle.meaning.specs.declared.store.Value.{Value}
-use Rattle.meaning.specs.declared.store.Value.TheVariants.{Number, Members}
+use Rattle.meaning.specs.declared.value.Value.{Value}
+use Rattle.meaning.specs.declared.value.Value.TheVariants.{Number, Members}
 use Rattle.meaning.specs.Integers.{is_integer_number, truth, is_true, is_odd, magnitude}
 use Rattle.meaning.specs.Store.{Environment, Place, inside_for, part}
 use Rattle.meaning.specs.Counting.{has_values, value_behind, values_before}

@@ -4,4 +4,7 @@
 
 pub mod laws;
 pub mod outcome;
-pub mod store;
+pub mod value;
+
+pub use outcome::{Ending, Outcome};
+pub use value::{Ordinal, Value};

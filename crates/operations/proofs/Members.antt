@@ -9,10 +9,10 @@ use Rattle.members.specs.Laws.{IsSet}
 use Rattle.typed_tree.specs.declared.tree.Dyadic.{Dyadic}
 use Rattle.typed_tree.specs.declared.tree.Dyadic.TheVariants as dyadic
 use Rattle.typed_tree.specs.declared.tree.Relation.{Relation}
-use Rattle.meaning.specs.declared.store.Value.{Value}
+use Rattle.meaning.specs.declared.value.Value.{Value}
 use Rattle.members.specs.Members.{can_be_member, count_below, count_to, has, of_range}
 use Rattle.members.proofs.Memberships.{can_be}
-use Rattle.meaning.specs.declared.store.Value.TheVariants.{Number}
+use Rattle.meaning.specs.declared.value.Value.TheVariants.{Number}
 use Rattle.meaning.specs.Effect.{State, and_then, give, require}
 use Rattle.meaning.specs.Meaning.{operated_both, with_range}
 use Rattle.operations.specs.Answers.{member_at, numbers_both}

@@ -13,8 +13,8 @@ use Rattle.typed_tree.specs.declared.tree.ForHead.{ForHead}
 use Rattle.typed_tree.specs.declared.tree.RangeTest.{RangeTest}
 use Rattle.typed_tree.specs.declared.tree.Stmt.{Stmt}
 use Rattle.meaning.specs.declared.outcome.Ending.TheVariants as ending
-use Rattle.meaning.specs.declared.store.Value.{Value}
-use Rattle.meaning.specs.declared.store.Value.TheVariants.{Number}
+use Rattle.meaning.specs.declared.value.Value.{Value}
+use Rattle.meaning.specs.declared.value.Value.TheVariants.{Number}
 use Rattle.meaning.specs.Effect.{State, Action, ◌>>=◌, give, stop, require, is_in, is_positive, number_of}
 use Rattle.meaning.specs.Meaning.{combined, is_among}
 use Rattle.meaning.specs.Counting.{has_values, next_value}

@@ -2,8 +2,8 @@ ghost use Rattle.std.specs.Prelude.{◌≡◌, option_map};
 ghost use Rattle.meaning.specs.Meaning.{is_among};
 ghost use Rattle.operations.specs.Answers.{arm_at};
 
-use meaning::store::Ordinal;
-use typed_tree::tree::Stmt;
+use meaning::Ordinal;
+use typed_tree::Stmt;
 
 /// The arm of a case at a value of its index, if any constants hold it (ISO 7185:1990, 6.8.3.5).
 pub fn arm_at<'t>(constants: &[Vec<i32>], arms: &'t [Stmt], index: Ordinal) -> Option<&'t Stmt>

@@ -5,9 +5,9 @@ ghost use Rattle.meaning.specs.Meaning.{unless_overflow};
 ghost use Rattle.operations.specs.Answers.{Answers, bounds_tested, checked, index_tested, number_tested, positive};
 ghost use Rattle.operations.specs.Answers.{value_before};
 
-use meaning::store::{Ordinal, Value};
+use meaning::{Ordinal, Value};
 use members::sets::is_within;
-use typed_tree::tree::{
+use typed_tree::{
     Calculation, Direction, Dyadic, ForHead, Monadic, RangeTest, Relation, Representation, Shift,
 };
 use types::OrdinalRange;

@@ -1,13 +1,13 @@
 ghost use Rattle.std.specs.Prelude.{◌≡◌, IfOk, map, pos};
 ghost use Rattle.typed_tree.specs.WellFormed.{length_of};
-ghost use Rattle.meaning.specs.declared.store.Value.TheVariants.{Number};
+ghost use Rattle.meaning.specs.declared.value.Value.TheVariants.{Number};
 ghost use Rattle.meaning.specs.Effect.{number_of};
 ghost use Rattle.meaning.specs.Meaning.{compared, order_of};
 
 use crate::ordinals::{is_related, number_of};
-use meaning::store::{Ordinal, Value};
+use meaning::{Ordinal, Value};
 use std::alloc::{AllocError, Global};
-use typed_tree::tree::{Relation, Whole};
+use typed_tree::{Relation, Whole};
 
 /// The values of characters.
 pub fn row_of(alloc: Global, characters: &[u8]) -> Result<Vec<Value>, AllocError>

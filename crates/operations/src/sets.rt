@@ -1,14 +1,14 @@
 ghost use Rattle.std.specs.Prelude.{◌≡◌, option_map};
 ghost use Rattle.members.specs.Members as sets;
-ghost use Rattle.meaning.specs.declared.store.Value.TheVariants.{Number};
+ghost use Rattle.meaning.specs.declared.value.Value.TheVariants.{Number};
 ghost use Rattle.meaning.specs.Effect.{members_of};
 ghost use Rattle.meaning.specs.Meaning.{operated_both, way_of, with_one, with_range};
 ghost use Rattle.operations.specs.Answers.{Answers, member_at, numbers_both};
 
 use crate::ordinals::{combined_number, number_of};
-use meaning::store::{Ordinal, Value};
+use meaning::{Ordinal, Value};
 use members::sets::{Operator, Relation, can_be_member, has, of_one, of_range};
-use typed_tree::tree::{Dyadic, SetRelation};
+use typed_tree::{Dyadic, SetRelation};
 
 /// The set that a value is.
 pub fn members_of(value: Value) -> u128

@@ -4,9 +4,9 @@ ghost use Rattle.meaning.specs.Effect.{string_text, text_of};
 ghost use Rattle.meaning.specs.Integers.{byte_of};
 
 use crate::ordinals::number_of;
-use meaning::store::{Ordinal, Value};
+use meaning::{Ordinal, Value};
 use std::alloc::{AllocError, Global};
-use typed_tree::tree::Representation;
+use typed_tree::Representation;
 
 /// Writes an ordinal in a width (ISO 7185:1990, 6.9.3).
 pub fn write_ordinal(

@@ -8,10 +8,9 @@ ghost use Rattle.stack_machine.specs.Does.{cell_count};
 ghost use Rattle.stack_machine.specs.Stands.{Stands};
 ghost use Rattle.outside.specs.Acts.{Act, Answered, Follows, IsRun, RanCode, ReadFile, Streams, Told, WroteFile};
 
-use pcode_assembler::code::Code;
-use prepared_steps::steps::Prepared;
-use stack_machine::machine::Machine;
-use stack_machine::stop::Stop;
+use pcode_assembler::Code;
+use prepared_steps::Prepared;
+use stack_machine::{Machine, Stop};
 
 /// What lies outside of a program: whoever implements it says what its acts do, and lets nothing else be done.
 pub trait Outside {

@@ -1,12 +1,9 @@
 ghost use Rattle.parser.specs.Both.{StandsBeside};
 
-use reading::refusal::Refusal;
+use token_cursor::Read;
 
 /// What was made, and what a rule read behind it, if it read something.
-pub(crate) fn beside<A: Drop, B: Drop>(
-    made: A,
-    found: Result<B, Refusal>,
-) -> Result<(A, B), Refusal>
+pub(crate) fn beside<A: Drop, B: Drop>(made: A, found: Read<B>) -> Read<(A, B)>
     ensures { StandsBeside made found result }
 {
     Ok((made, found?))

@@ -8,10 +8,8 @@ ghost use Rattle.parser.specs.Constants.{signed};
 
 use crate::lists::{Item, Part, enclosed};
 use lexer::token::{Kind, Symbol};
-use reading::refusal::Refusal;
-use std::alloc::Global;
 use syntax_tree::{Constant, ConstantDefinition, ConstantValue, SignAt};
-use token_cursor::cursor::Cursor;
+use token_cursor::{Cursor, Read};
 
 /// The definition of a constant (6.3).
 /// `constant-definition = identifier "=" constant ";" .`
@@ -21,7 +19,7 @@ impl<'a> Item<'a> for ConstantDefinition<'a> {
     ghost rule = { λ levels. definition };
 
     #[tactic(auto, unfolding(reading::specs::Declarations::definition))]
-    fn read(_alloc: Global, cursor: &mut Cursor<'_, 'a>, _levels: u32) -> Result<Self, Refusal> {
+    fn read(cursor: &mut Cursor<'_, 'a>, _levels: u32) -> Read<Self> {
         let name = cursor.expect_name();
         let name = cursor.followed_by(name, Kind::Symbol(Symbol::Equal))?;
         let value = constant(cursor);
@@ -35,7 +33,7 @@ impl<'a> Part<'a> for Constant<'a> {
 
     ghost rule = { spec.constant };
 
-    fn read(_alloc: Global, cursor: &mut Cursor<'_, 'a>) -> Result<Self, Refusal> {
+    fn read(cursor: &mut Cursor<'_, 'a>) -> Read<Self> {
         constant(cursor)
     }
 }
@@ -43,19 +41,16 @@ impl<'a> Part<'a> for Constant<'a> {
 /// The constants before an arm of a case (6.8.3.5), and their colon.
 /// `case-constants = constant { "," constant } ":" .`
 #[tactic(auto, using(crate::proofs::Parts::constant_leaves), unfolding(reading::specs::Statements::row))]
-pub(crate) fn row<'a>(
-    alloc: Global,
-    cursor: &mut Cursor<'_, 'a>,
-) -> Result<Vec<Constant<'a>>, Refusal>
+pub(crate) fn row<'a>(cursor: &mut Cursor<'_, 'a>) -> Read<Vec<Constant<'a>>>
     ensures { Makes constants_outlines (spec.row cursor.old.rest.now) result cursor.new }
 {
-    enclosed(alloc, cursor, Symbol::Comma, Symbol::Colon)
+    enclosed(cursor, Symbol::Comma, Symbol::Colon)
 }
 
 /// A constant (6.3): a string, or a number or a name with a sign or none.
 /// `constant = character-string | [ sign ] unsigned-constant .`
 #[tactic(auto, unfolding(reading::specs::Statements::constant))]
-pub(crate) fn constant<'a>(cursor: &mut Cursor<'_, 'a>) -> Result<Constant<'a>, Refusal>
+pub(crate) fn constant<'a>(cursor: &mut Cursor<'_, 'a>) -> Read<Constant<'a>>
     ensures { Makes constant_outline (spec.constant cursor.old.rest.now) result cursor.new }
 {
     if let Some((text, place)) = cursor.take_string() {
@@ -81,7 +76,7 @@ fn sign(cursor: &mut Cursor<'_, '_>) -> Option<SignAt>
 /// A number or a name behind this sign.
 /// `unsigned-constant = unsigned-integer | identifier .`
 #[tactic(auto, unfolding(reading::specs::Statements::value))]
-fn signed<'a>(cursor: &mut Cursor<'_, 'a>, sign: Option<SignAt>) -> Result<Constant<'a>, Refusal>
+fn signed<'a>(cursor: &mut Cursor<'_, 'a>, sign: Option<SignAt>) -> Read<Constant<'a>>
     ensures { Makes constant_outline (signed (sign_outline sign) cursor.old.rest.now) result cursor.new }
 {
     if let Some((value, place)) = cursor.take_number() {

@@ -13,28 +13,20 @@ use crate::lists::behind_arm;
 use crate::names::field_names;
 use crate::unstructured::{enumerated, name_or_subrange};
 use lexer::token::{Kind, Symbol, Word};
-use reading::refusal::Refusal;
-use std::alloc::Global;
 use syntax_tree::{Name, TypeDenoter};
-use token_cursor::cursor::Cursor;
-use token_cursor::kept::{boxed, put};
-use token_cursor::nesting::inside;
+use token_cursor::{Cursor, Read, boxed, inside, put};
 
 /// A type denoter (6.4.1) in something below which `levels` levels are left.
 /// `type-denoter = enumerated-type | structured-type | name-or-subrange .`
 #[cycle(denoter)]
-pub(crate) fn denoter<'a>(
-    alloc: Global,
-    cursor: &mut Cursor<'_, 'a>,
-    levels: u32,
-) -> Result<TypeDenoter<'a>, Refusal>
+pub(crate) fn denoter<'a>(cursor: &mut Cursor<'_, 'a>, levels: u32) -> Read<TypeDenoter<'a>>
     ensures { Makes denoter_outline (spec.denoter levels cursor.old.rest.now) result cursor.new }
 {
     let levels = inside(levels, cursor.place())?;
     match cursor.peek() {
-        Some(Kind::Symbol(Symbol::OpenParenthesis)) => enumerated(alloc, cursor),
+        Some(Kind::Symbol(Symbol::OpenParenthesis)) => enumerated(cursor),
         // No other denoter begins with a word symbol.
-        Some(Kind::Word(_)) => structured(alloc, cursor, levels),
+        Some(Kind::Word(_)) => structured(cursor, levels),
         _ => name_or_subrange(cursor),
     }
 }
@@ -43,18 +35,14 @@ pub(crate) fn denoter<'a>(
 /// `structured-type = [ "packed" ] ( array-type | set-type | record-type ) .`
 #[cycle(denoter)]
 #[tactic(auto, unfolding(reading::specs::Declarations::structured, reading::specs::Declarations::packed))]
-fn structured<'a>(
-    alloc: Global,
-    cursor: &mut Cursor<'_, 'a>,
-    levels: u32,
-) -> Result<TypeDenoter<'a>, Refusal>
+fn structured<'a>(cursor: &mut Cursor<'_, 'a>, levels: u32) -> Read<TypeDenoter<'a>>
     ensures { Makes denoter_outline (spec.structured (spec.denoter levels) cursor.old.rest.now) result cursor.new }
 {
     let packed = cursor.take_word(Word::Packed).is_some();
     match cursor.peek() {
-        Some(Kind::Word(Word::Array)) => array(alloc, cursor, levels, packed),
-        Some(Kind::Word(Word::Set)) => set(alloc, cursor, levels, packed),
-        _ => record(alloc, cursor, levels, packed),
+        Some(Kind::Word(Word::Array)) => array(cursor, levels, packed),
+        Some(Kind::Word(Word::Set)) => set(cursor, levels, packed),
+        _ => record(cursor, levels, packed),
     }
 }
 
@@ -62,20 +50,15 @@ fn structured<'a>(
 /// `array-type = "array" "[" index-types "]" "of" component-type .`
 #[cycle(denoter)]
 #[tactic(auto, using(crate::proofs::Denoters::built_denoters), unfolding(reading::specs::Declarations::array))]
-fn array<'a>(
-    alloc: Global,
-    cursor: &mut Cursor<'_, 'a>,
-    levels: u32,
-    packed: bool,
-) -> Result<TypeDenoter<'a>, Refusal>
+fn array<'a>(cursor: &mut Cursor<'_, 'a>, levels: u32, packed: bool) -> Read<TypeDenoter<'a>>
     ensures { Makes denoter_outline (array_type packed (spec.denoter levels) cursor.old.rest.now) result cursor.new }
 {
     let place = cursor.expect_word(Word::Array);
     let place = cursor.followed_by(place, Kind::Symbol(Symbol::OpenBracket))?;
-    let indexes = indexes(alloc, cursor, levels);
+    let indexes = indexes(cursor, levels);
     let indexes = cursor.followed_by(indexes, Kind::Symbol(Symbol::CloseBracket));
     let indexes = cursor.followed_by(indexes, Kind::Word(Word::Of))?;
-    let element = made_beside!(part(alloc, cursor, levels), indexes);
+    let element = made_beside!(part(cursor, levels), indexes);
     Ok(TypeDenoter::Array {
         packed,
         place,
@@ -87,31 +70,23 @@ fn array<'a>(
 /// The element type of an array, or the base type of a set.
 /// `component-type = type-denoter .`
 #[cycle(denoter)]
-fn part<'a>(
-    alloc: Global,
-    cursor: &mut Cursor<'_, 'a>,
-    levels: u32,
-) -> Result<Box<TypeDenoter<'a>>, Refusal>
+fn part<'a>(cursor: &mut Cursor<'_, 'a>, levels: u32) -> Read<Box<TypeDenoter<'a>>>
     ensures { Makes (λ part. denoter_outline part.value) (spec.denoter levels cursor.old.rest.now) result cursor.new }
 {
-    boxed(alloc, denoter(alloc, cursor, levels))
+    boxed(cursor.alloc, denoter(cursor, levels))
 }
 
 /// The index types of an array.
 /// `index-types = type-denoter { "," type-denoter } .`
 #[cycle(denoter)]
-fn indexes<'a>(
-    alloc: Global,
-    cursor: &mut Cursor<'_, 'a>,
-    levels: u32,
-) -> Result<Vec<TypeDenoter<'a>>, Refusal>
+fn indexes<'a>(cursor: &mut Cursor<'_, 'a>, levels: u32) -> Read<Vec<TypeDenoter<'a>>>
     ensures { Makes (λ found. map denoter_outline found.items)
         (separated Symbol.Comma (spec.denoter levels) cursor.old.rest.now) result cursor.new }
 {
     // Most arrays have one index type.
-    let mut indexes = Vec::with_capacity(alloc, 1)?;
+    let mut indexes = Vec::with_capacity(cursor.alloc, 1)?;
     loop {
-        put(&mut indexes, denoter(alloc, cursor, levels))?;
+        put(&mut indexes, denoter(cursor, levels))?;
         let Some(_) = cursor.take_symbol(Symbol::Comma) else {
             return Ok(indexes);
         };
@@ -122,17 +97,12 @@ fn indexes<'a>(
 /// `set-type = "set" "of" component-type .`
 #[cycle(denoter)]
 #[tactic(auto, using(crate::proofs::Denoters::built_denoters), unfolding(reading::specs::Declarations::set_type))]
-fn set<'a>(
-    alloc: Global,
-    cursor: &mut Cursor<'_, 'a>,
-    levels: u32,
-    packed: bool,
-) -> Result<TypeDenoter<'a>, Refusal>
+fn set<'a>(cursor: &mut Cursor<'_, 'a>, levels: u32, packed: bool) -> Read<TypeDenoter<'a>>
     ensures { Makes denoter_outline (set_type packed (spec.denoter levels) cursor.old.rest.now) result cursor.new }
 {
     let place = cursor.expect_word(Word::Set);
     let place = cursor.followed_by(place, Kind::Word(Word::Of))?;
-    let base = part(alloc, cursor, levels)?;
+    let base = part(cursor, levels)?;
     Ok(TypeDenoter::Set {
         packed,
         place,
@@ -144,12 +114,7 @@ fn set<'a>(
 /// `record-type = "record" ( "end" | fields ) .`
 #[cycle(denoter)]
 #[tactic(auto, using(crate::proofs::Denoters::built_denoters), unfolding(reading::specs::Declarations::record_type))]
-fn record<'a>(
-    alloc: Global,
-    cursor: &mut Cursor<'_, 'a>,
-    levels: u32,
-    packed: bool,
-) -> Result<TypeDenoter<'a>, Refusal>
+fn record<'a>(cursor: &mut Cursor<'_, 'a>, levels: u32, packed: bool) -> Read<TypeDenoter<'a>>
     ensures { Makes denoter_outline (record_type packed (spec.denoter levels) cursor.old.rest.now) result cursor.new }
 {
     let place = cursor.expect_word(Word::Record)?;
@@ -157,12 +122,12 @@ fn record<'a>(
         return Ok(TypeDenoter::Record {
             packed,
             place,
-            names: Vec::new(alloc),
-            denoters: Vec::new(alloc),
+            names: Vec::new(cursor.alloc),
+            denoters: Vec::new(cursor.alloc),
             semicolon: false,
         });
     }
-    let (names, denoters, semicolon) = fields(alloc, cursor, levels)?;
+    let (names, denoters, semicolon) = fields(cursor, levels)?;
     Ok(TypeDenoter::Record {
         packed,
         place,
@@ -177,18 +142,17 @@ fn record<'a>(
 /// `fields = names type-denoter { ";" names type-denoter } [ ";" ] "end" .`
 #[cycle(denoter)]
 fn fields<'a>(
-    alloc: Global,
     cursor: &mut Cursor<'_, 'a>,
     levels: u32,
-) -> Result<(Vec<Vec<Name<'a>>>, Vec<TypeDenoter<'a>>, bool), Refusal>
+) -> Read<(Vec<Vec<Name<'a>>>, Vec<TypeDenoter<'a>>, bool)>
     ensures { MakesRows (λ names denoters semicolon. (fields_look names denoters, semicolon))
         (parts_to_end (spec.fields (spec.denoter levels)) cursor.old.rest.now) result cursor.new }
 {
-    let mut names = Vec::new(alloc);
-    let mut denoters = Vec::new(alloc);
+    let mut names = Vec::new(cursor.alloc);
+    let mut denoters = Vec::new(cursor.alloc);
     loop {
-        put(&mut names, field_names(alloc, cursor))?;
-        put(&mut denoters, denoter(alloc, cursor, levels))?;
+        put(&mut names, field_names(cursor))?;
+        put(&mut denoters, denoter(cursor, levels))?;
         if let Some(semicolon) = behind_arm(cursor)? {
             return Ok((names, denoters, semicolon));
         }

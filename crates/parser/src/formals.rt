@@ -7,10 +7,8 @@ ghost use Rattle.token_cursor.specs.Cursor.{Makes};
 use crate::lists::{Part, in_parentheses};
 use crate::names::field_names;
 use lexer::token::{Symbol, Word};
-use reading::refusal::Refusal;
-use std::alloc::Global;
 use syntax_tree::{FormalGroup, Passing};
-use token_cursor::cursor::Cursor;
+use token_cursor::{Cursor, Read};
 
 /// Formal parameters that are declared together, and the name of their type (6.6.3.1).
 /// `formal-section = [ "var" ] names identifier .`
@@ -20,12 +18,12 @@ impl<'a> Part<'a> for FormalGroup<'a> {
     ghost rule = { spec.formal };
 
     #[tactic(auto, unfolding(reading::specs::Declarations::formal, reading::specs::Declarations::passing))]
-    fn read(alloc: Global, cursor: &mut Cursor<'_, 'a>) -> Result<Self, Refusal> {
+    fn read(cursor: &mut Cursor<'_, 'a>) -> Read<Self> {
         let by = match cursor.take_word(Word::Var) {
             Some(_) => Passing::Variable,
             None => Passing::Value,
         };
-        let names = field_names(alloc, cursor)?;
+        let names = field_names(cursor)?;
         let type_name = cursor.expect_name()?;
         Ok(FormalGroup {
             by,
@@ -38,11 +36,8 @@ impl<'a> Part<'a> for FormalGroup<'a> {
 /// The formal parameters of a procedure or function (6.6.3.1), which may be left out.
 /// `formal-parameters = [ "(" formal-section { ";" formal-section } ")" ] .`
 #[tactic(auto, using(crate::proofs::Parts::formal_leaves), unfolding(reading::specs::Declarations::formals))]
-pub(crate) fn formals<'a>(
-    alloc: Global,
-    cursor: &mut Cursor<'_, 'a>,
-) -> Result<Vec<FormalGroup<'a>>, Refusal>
+pub(crate) fn formals<'a>(cursor: &mut Cursor<'_, 'a>) -> Read<Vec<FormalGroup<'a>>>
     ensures { Makes (λ found. map formal_outline found.items) (formals cursor.old.rest.now) result cursor.new }
 {
-    in_parentheses(alloc, cursor, Symbol::Semicolon)
+    in_parentheses(cursor, Symbol::Semicolon)
 }

@@ -7,41 +7,36 @@ ghost use Rattle.parser.specs.Headings.{headed};
 
 use crate::formals::formals;
 use lexer::token::{Kind, Symbol, Word};
-use reading::refusal::Refusal;
-use std::alloc::Global;
 use syntax_tree::{FormalGroup, Heading, Name};
-use token_cursor::cursor::Cursor;
+use token_cursor::{Cursor, Read};
 
 /// The heading of a procedure (6.6.1) or of a function (6.6.2), with its semicolon.
 /// `heading = procedure-heading | function-heading .`
 #[tactic(auto, unfolding(reading::specs::Declarations::heading))]
-pub(crate) fn heading<'a>(
-    alloc: Global,
-    cursor: &mut Cursor<'_, 'a>,
-) -> Result<Heading<'a>, Refusal>
+pub(crate) fn heading<'a>(cursor: &mut Cursor<'_, 'a>) -> Read<Heading<'a>>
     ensures { Makes headed (spec.heading cursor.old.rest.now) result cursor.new }
 {
     match cursor.peek() {
-        Some(Kind::Word(Word::Procedure)) => procedure(alloc, cursor),
-        _ => function(alloc, cursor),
+        Some(Kind::Word(Word::Procedure)) => procedure(cursor),
+        _ => function(cursor),
     }
 }
 
 /// `procedure-heading = "procedure" identifier formal-parameters ";" .`
 #[tactic(auto, unfolding(reading::specs::Declarations::procedure))]
-fn procedure<'a>(alloc: Global, cursor: &mut Cursor<'_, 'a>) -> Result<Heading<'a>, Refusal>
+fn procedure<'a>(cursor: &mut Cursor<'_, 'a>) -> Read<Heading<'a>>
     ensures { Makes headed (spec.procedure cursor.old.rest.now) result cursor.new }
 {
     cursor.expect_word(Word::Procedure)?;
     let name = cursor.expect_name()?;
-    let formals = formals(alloc, cursor);
+    let formals = formals(cursor);
     let formals = cursor.followed_by(formals, Kind::Symbol(Symbol::Semicolon))?;
     Ok(Heading::Procedure { name, formals })
 }
 
 /// `function-heading = "function" identifier ( ";" | signature ) .`
 #[tactic(auto, unfolding(reading::specs::Declarations::function))]
-fn function<'a>(alloc: Global, cursor: &mut Cursor<'_, 'a>) -> Result<Heading<'a>, Refusal>
+fn function<'a>(cursor: &mut Cursor<'_, 'a>) -> Read<Heading<'a>>
     ensures { Makes headed (spec.function cursor.old.rest.now) result cursor.new }
 {
     cursor.expect_word(Word::Function)?;
@@ -49,7 +44,7 @@ fn function<'a>(alloc: Global, cursor: &mut Cursor<'_, 'a>) -> Result<Heading<'a
     if let Some(_) = cursor.take_symbol(Symbol::Semicolon) {
         return Ok(Heading::Resumed { name });
     }
-    let (formals, result) = signature(alloc, cursor)?;
+    let (formals, result) = signature(cursor)?;
     Ok(Heading::Function {
         name,
         formals,
@@ -60,14 +55,11 @@ fn function<'a>(alloc: Global, cursor: &mut Cursor<'_, 'a>) -> Result<Heading<'a
 /// The formal parameters of a function, and the name of its result's type.
 /// `signature = formal-parameters ":" identifier ";" .`
 #[tactic(auto, unfolding(reading::specs::Declarations::signature))]
-fn signature<'a>(
-    alloc: Global,
-    cursor: &mut Cursor<'_, 'a>,
-) -> Result<(Vec<FormalGroup<'a>>, Name<'a>), Refusal>
+fn signature<'a>(cursor: &mut Cursor<'_, 'a>) -> Read<(Vec<FormalGroup<'a>>, Name<'a>)>
     ensures { Makes (λ found. (map formal_outline found.0.items, identifier found.1))
         (spec.signature cursor.old.rest.now) result cursor.new }
 {
-    let formals = formals(alloc, cursor);
+    let formals = formals(cursor);
     let formals = cursor.followed_by(formals, Kind::Symbol(Symbol::Colon))?;
     let result = cursor.expect_name();
     let result = cursor.followed_by(result, Kind::Symbol(Symbol::Semicolon))?;

@@ -8,10 +8,7 @@ ghost use Rattle.reading.specs.Statements as statements;
 ghost use Rattle.token_cursor.specs.Cursor.{Makes};
 
 use lexer::token::{Kind, Symbol, Word};
-use reading::refusal::Refusal;
-use std::alloc::Global;
-use token_cursor::cursor::Cursor;
-use token_cursor::kept::put;
+use token_cursor::{Cursor, Read, put};
 
 /// What stands in a list with a symbol between each two.
 pub(crate) trait Part<'a>: Drop {
@@ -21,7 +18,7 @@ pub(crate) trait Part<'a>: Drop {
     /// The rule by which it is read.
     ghost rule: { Reading Outline };
 
-    fn read(alloc: Global, cursor: &mut Cursor<'_, 'a>) -> Result<Self, Refusal>
+    fn read(cursor: &mut Cursor<'_, 'a>) -> Read<Self>
         ensures { Makes look (rule cursor.old.rest.now) result cursor.new };
 }
 
@@ -33,25 +30,21 @@ pub(crate) trait Item<'a>: Drop {
     /// The rule by which it is read, in a block below which so many levels are left.
     ghost rule: { ℕ → Reading Outline };
 
-    fn read(alloc: Global, cursor: &mut Cursor<'_, 'a>, levels: u32) -> Result<Self, Refusal>
+    fn read(cursor: &mut Cursor<'_, 'a>, levels: u32) -> Read<Self>
         ensures { Makes look (rule levels cursor.old.rest.now) result cursor.new };
 }
 
 /// One part or more, with a symbol between each two.
 /// `separated = part { symbol part } .`
-fn separated<'a, P: Part<'a>>(
-    alloc: Global,
-    cursor: &mut Cursor<'_, 'a>,
-    symbol: Symbol,
-) -> Result<Vec<P>, Refusal>
+fn separated<'a, P: Part<'a>>(cursor: &mut Cursor<'_, 'a>, symbol: Symbol) -> Read<Vec<P>>
     requires { LeavesNoMore P.rule }
     ensures { Makes (λ found. map P.look found.items) (spec.separated symbol P.rule cursor.old.rest.now)
         result cursor.new }
 {
     // Most lists have one part.
-    let mut found = Vec::with_capacity(alloc, 1)?;
+    let mut found = Vec::with_capacity(cursor.alloc, 1)?;
     loop {
-        put(&mut found, P::read(alloc, cursor))?;
+        put(&mut found, P::read(cursor))?;
         let Some(_) = cursor.take_symbol(symbol) else {
             return Ok(found);
         };
@@ -62,33 +55,31 @@ fn separated<'a, P: Part<'a>>(
 /// `enclosed = separated end .`
 #[tactic(auto, using(token_cursor::proofs::Keeping::followed_makes))]
 pub(crate) fn enclosed<'a, P: Part<'a>>(
-    alloc: Global,
     cursor: &mut Cursor<'_, 'a>,
     symbol: Symbol,
     end: Symbol,
-) -> Result<Vec<P>, Refusal>
+) -> Read<Vec<P>>
     requires { LeavesNoMore P.rule }
     ensures { Makes (λ found. map P.look found.items) (enclosed symbol end P.rule cursor.old.rest.now)
         result cursor.new }
 {
-    let found = separated(alloc, cursor, symbol);
+    let found = separated(cursor, symbol);
     cursor.followed_by(found, Kind::Symbol(end))
 }
 
 /// Parts in parentheses, with a symbol between each two, or none where no parentheses come.
 /// `in-parentheses = [ "(" separated ")" ] .`
 pub(crate) fn in_parentheses<'a, P: Part<'a>>(
-    alloc: Global,
     cursor: &mut Cursor<'_, 'a>,
     symbol: Symbol,
-) -> Result<Vec<P>, Refusal>
+) -> Read<Vec<P>>
     requires { LeavesNoMore P.rule }
     ensures { Makes (λ found. map P.look found.items) (in_parentheses symbol P.rule cursor.old.rest.now)
         result cursor.new }
 {
     match cursor.take_symbol(Symbol::OpenParenthesis) {
-        Some(_) => enclosed(alloc, cursor, symbol, Symbol::CloseParenthesis),
-        None => Ok(Vec::new(alloc)),
+        Some(_) => enclosed(cursor, symbol, Symbol::CloseParenthesis),
+        None => Ok(Vec::new(cursor.alloc)),
     }
 }
 
@@ -96,21 +87,20 @@ pub(crate) fn in_parentheses<'a, P: Part<'a>>(
 /// below which `levels` levels are left.
 /// `block-part = [ word item { item } ] .`
 pub(crate) fn block_part<'a, I: Item<'a>>(
-    alloc: Global,
     cursor: &mut Cursor<'_, 'a>,
     levels: u32,
     word: Word,
-) -> Result<Vec<I>, Refusal>
+) -> Read<Vec<I>>
     requires { LeavesFewer (I.rule levels) }
     ensures { Makes (λ found. map I.look found.items)
         (declarations.part word (I.rule levels) cursor.old.rest.now) result cursor.new }
 {
-    let mut found = Vec::new(alloc);
+    let mut found = Vec::new(cursor.alloc);
     let Some(_) = cursor.take_word(word) else {
         return Ok(found);
     };
     loop {
-        put(&mut found, I::read(alloc, cursor, levels))?;
+        put(&mut found, I::read(cursor, levels))?;
         if !is_next(cursor, Kind::Identifier) {
             return Ok(found);
         }
@@ -131,7 +121,7 @@ pub(crate) fn is_next(cursor: &Cursor<'_, '_>, kind: Kind) -> bool
 /// `end`, or none where more arms or fields follow.
 /// `behind-arm = ";" [ "end" ] | "end" .`
 #[tactic(auto, unfolding(reading::specs::Statements::behind_arm))]
-pub(crate) fn behind_arm(cursor: &mut Cursor<'_, '_>) -> Result<Option<bool>, Refusal>
+pub(crate) fn behind_arm(cursor: &mut Cursor<'_, '_>) -> Read<Option<bool>>
     ensures { Makes (λ found. found) (statements.behind_arm cursor.old.rest.now) result cursor.new }
 {
     let Some(_) = cursor.take_symbol(Symbol::Semicolon) else {

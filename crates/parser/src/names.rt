@@ -6,10 +6,8 @@ ghost use Rattle.token_cursor.specs.Cursor.{Makes};
 
 use crate::lists::{Part, enclosed};
 use lexer::token::Symbol;
-use reading::refusal::Refusal;
-use std::alloc::Global;
 use syntax_tree::Name;
-use token_cursor::cursor::Cursor;
+use token_cursor::{Cursor, Read};
 
 impl<'a> Part<'a> for Name<'a> {
     ghost look = { name_outline };
@@ -17,7 +15,7 @@ impl<'a> Part<'a> for Name<'a> {
     ghost rule = { spec.name };
 
     #[tactic(auto, unfolding(reading::specs::Declarations::name))]
-    fn read(_alloc: Global, cursor: &mut Cursor<'_, 'a>) -> Result<Self, Refusal> {
+    fn read(cursor: &mut Cursor<'_, 'a>) -> Read<Self> {
         cursor.expect_name()
     }
 }
@@ -26,11 +24,8 @@ impl<'a> Part<'a> for Name<'a> {
 /// colon.
 /// `names = identifier { "," identifier } ":" .`
 #[tactic(auto, using(crate::proofs::Parts::lists_of_names), unfolding(reading::specs::Declarations::field_names))]
-pub(crate) fn field_names<'a>(
-    alloc: Global,
-    cursor: &mut Cursor<'_, 'a>,
-) -> Result<Vec<Name<'a>>, Refusal>
+pub(crate) fn field_names<'a>(cursor: &mut Cursor<'_, 'a>) -> Read<Vec<Name<'a>>>
     ensures { Makes (λ found. map name_outline found.items) (field_names cursor.old.rest.now) result cursor.new }
 {
-    enclosed(alloc, cursor, Symbol::Comma, Symbol::Colon)
+    enclosed(cursor, Symbol::Comma, Symbol::Colon)
 }

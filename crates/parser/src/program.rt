@@ -13,13 +13,11 @@ use crate::beside::made_beside;
 use crate::block::block;
 use crate::lists::in_parentheses;
 use lexer::token::{Kind, Symbol, Token, Word};
-use reading::refusal::Refusal;
 use std::alloc::Global;
 use syntax_tree::{Name, Program};
-use token_cursor::cursor::Cursor;
 use token_cursor::fault::{ParseFault, fault_of};
 use token_cursor::left_out::first_left_out;
-use token_cursor::nesting::MAX_NESTING;
+use token_cursor::{Cursor, MAX_NESTING, Read};
 
 /// The syntax tree that the tokens spell (6.2 to 6.10), its parentheses kept. P3 where a token stands that only forms
 /// left out have: the first of these, before all else. Otherwise P1 at the first token with which no program goes on,
@@ -39,8 +37,8 @@ pub fn parse<'a>(alloc: Global, tokens: &[Token<'a>]) -> Result<Program<'a>, Par
     if let Some(place) = first_left_out(tokens) {
         return Err(ParseFault::LeftOut(place));
     }
-    let mut cursor = Cursor::new(tokens);
-    match program(alloc, &mut cursor) {
+    let mut cursor = Cursor::new(alloc, tokens);
+    match program(&mut cursor) {
         Ok(tree) => Ok(tree),
         Err(refusal) => Err(fault_of(tokens, cursor.rest.len(), refusal)),
     }
@@ -49,14 +47,14 @@ pub fn parse<'a>(alloc: Global, tokens: &[Token<'a>]) -> Result<Program<'a>, Par
 /// A program and nothing behind it.
 /// `program = "program" identifier parameters ";" block "." .`
 #[tactic(auto, unfolding(reading::specs::Declarations::program))]
-fn program<'a>(alloc: Global, cursor: &mut Cursor<'_, 'a>) -> Result<Program<'a>, Refusal>
+fn program<'a>(cursor: &mut Cursor<'_, 'a>) -> Read<Program<'a>>
     ensures { Makes program_outline (spec.program most cursor.old.rest.now) result cursor.new }
 {
     cursor.expect_word(Word::Program)?;
     let name = cursor.expect_name()?;
-    let parameters = parameters(alloc, cursor);
+    let parameters = parameters(cursor);
     let parameters = cursor.followed_by(parameters, Kind::Symbol(Symbol::Semicolon))?;
-    let block = block(alloc, cursor, MAX_NESTING);
+    let block = block(cursor, MAX_NESTING);
     let block = made_beside!(ended(cursor, block), parameters);
     Ok(Program {
         name,
@@ -66,7 +64,7 @@ fn program<'a>(alloc: Global, cursor: &mut Cursor<'_, 'a>) -> Result<Program<'a>
 }
 
 /// What a rule read, if the period of a program stands behind it and nothing else.
-fn ended<T: Drop>(cursor: &mut Cursor<'_, '_>, found: Result<T, Refusal>) -> Result<T, Refusal>
+fn ended<T: Drop>(cursor: &mut Cursor<'_, '_>, found: Read<T>) -> Read<T>
     ensures { IsEnded found cursor.old result cursor.new }
 {
     let made = found?;
@@ -76,8 +74,8 @@ fn ended<T: Drop>(cursor: &mut Cursor<'_, '_>, found: Result<T, Refusal>) -> Res
 
 /// `parameters = [ "(" identifier { "," identifier } ")" ] .`
 #[tactic(auto, using(crate::proofs::Parts::lists_of_names), unfolding(reading::specs::Declarations::parameters))]
-fn parameters<'a>(alloc: Global, cursor: &mut Cursor<'_, 'a>) -> Result<Vec<Name<'a>>, Refusal>
+fn parameters<'a>(cursor: &mut Cursor<'_, 'a>) -> Read<Vec<Name<'a>>>
     ensures { Makes (λ found. map name_outline found.items) (spec.parameters cursor.old.rest.now) result cursor.new }
 {
-    in_parentheses(alloc, cursor, Symbol::Comma)
+    in_parentheses(cursor, Symbol::Comma)
 }

@@ -13,43 +13,32 @@ use expression_parser::expression::{actuals, expression, selectors};
 use lexer::token::{Kind, Symbol, Word};
 use place::Place;
 use reading::refusal::Refusal;
-use std::alloc::Global;
 use syntax_tree::{Constant, Direction, Expr, Name, RecordVariable, Stmt};
-use token_cursor::cursor::Cursor;
-use token_cursor::kept::{boxed, put};
-use token_cursor::nesting::inside;
+use token_cursor::{Cursor, Read, boxed, inside, put};
 
 /// The statements of a compound statement (6.8.3.2), and its `end`. Below it `levels` levels are
 /// left.
 /// `compound-statement = "begin" statements "end" .`
 #[cycle(statement)]
 #[tactic(auto, unfolding(reading::specs::Statements::compound))]
-pub(crate) fn compound<'a>(
-    alloc: Global,
-    cursor: &mut Cursor<'_, 'a>,
-    levels: u32,
-) -> Result<(Vec<Stmt<'a>>, Place), Refusal>
+pub(crate) fn compound<'a>(cursor: &mut Cursor<'_, 'a>, levels: u32) -> Read<(Vec<Stmt<'a>>, Place)>
     ensures { Makes compound_outlines (spec.compound (spec.statement levels) cursor.old.rest.now) result cursor.new }
 {
     cursor.expect_word(Word::Begin)?;
-    let statements = statements(alloc, cursor, levels)?;
+    let statements = statements(cursor, levels)?;
     let end = made_beside!(cursor.expect_word(Word::End), statements);
     Ok((statements, end))
 }
 
 /// `statements = statement { ";" statement } .`
 #[cycle(statement)]
-fn statements<'a>(
-    alloc: Global,
-    cursor: &mut Cursor<'_, 'a>,
-    levels: u32,
-) -> Result<Vec<Stmt<'a>>, Refusal>
+fn statements<'a>(cursor: &mut Cursor<'_, 'a>, levels: u32) -> Read<Vec<Stmt<'a>>>
     ensures { Makes statements_outlines (separated Symbol.Semicolon (spec.statement levels) cursor.old.rest.now) result
         cursor.new }
 {
-    let mut statements = Vec::new(alloc);
+    let mut statements = Vec::new(cursor.alloc);
     loop {
-        put(&mut statements, statement(alloc, cursor, levels))?;
+        put(&mut statements, statement(cursor, levels))?;
         let Some(_) = cursor.take_symbol(Symbol::Semicolon) else {
             return Ok(statements);
         };
@@ -60,26 +49,22 @@ fn statements<'a>(
 /// `statement = [ simple | compound-statement | if | while | repeat | for | case | with ] .`
 #[cycle(statement)]
 #[tactic(auto, using(crate::proofs::Built::built_statements))]
-fn statement<'a>(
-    alloc: Global,
-    cursor: &mut Cursor<'_, 'a>,
-    levels: u32,
-) -> Result<Stmt<'a>, Refusal>
+fn statement<'a>(cursor: &mut Cursor<'_, 'a>, levels: u32) -> Read<Stmt<'a>>
     ensures { Makes stmt_outline (spec.statement levels cursor.old.rest.now) result cursor.new }
 {
     let levels = inside(levels, cursor.place())?;
     match cursor.peek() {
-        Some(Kind::Identifier) => simple(alloc, cursor, levels),
+        Some(Kind::Identifier) => simple(cursor, levels),
         Some(Kind::Word(Word::Begin)) => {
-            let (statements, _) = compound(alloc, cursor, levels)?;
+            let (statements, _) = compound(cursor, levels)?;
             Ok(Stmt::Compound { statements })
         }
-        Some(Kind::Word(Word::If)) => conditional(alloc, cursor, levels),
-        Some(Kind::Word(Word::While)) => while_loop(alloc, cursor, levels),
-        Some(Kind::Word(Word::Repeat)) => repeat_loop(alloc, cursor, levels),
-        Some(Kind::Word(Word::For)) => for_loop(alloc, cursor, levels),
-        Some(Kind::Word(Word::Case)) => case_of(alloc, cursor, levels),
-        Some(Kind::Word(Word::With)) => with_fields(alloc, cursor, levels),
+        Some(Kind::Word(Word::If)) => conditional(cursor, levels),
+        Some(Kind::Word(Word::While)) => while_loop(cursor, levels),
+        Some(Kind::Word(Word::Repeat)) => repeat_loop(cursor, levels),
+        Some(Kind::Word(Word::For)) => for_loop(cursor, levels),
+        Some(Kind::Word(Word::Case)) => case_of(cursor, levels),
+        Some(Kind::Word(Word::With)) => with_fields(cursor, levels),
         _ => Ok(Stmt::Empty),
     }
 }
@@ -88,13 +73,13 @@ fn statement<'a>(
 /// left.
 /// `simple = identifier ( selectors ":=" expression | actual-parameters ) .`
 #[tactic(auto, using(crate::proofs::Built::built_statements), unfolding(reading::specs::Statements::simple))]
-fn simple<'a>(alloc: Global, cursor: &mut Cursor<'_, 'a>, levels: u32) -> Result<Stmt<'a>, Refusal>
+fn simple<'a>(cursor: &mut Cursor<'_, 'a>, levels: u32) -> Read<Stmt<'a>>
     ensures { Makes stmt_outline (spec.simple levels cursor.old.rest.now) result cursor.new }
 {
     let name = cursor.expect_name()?;
-    let (selectors, indexes) = selectors(alloc, cursor, levels)?;
+    let (selectors, indexes) = selectors(cursor, levels)?;
     if let Some(becomes) = cursor.take_symbol(Symbol::Becomes) {
-        let value = expression(alloc, cursor, levels)?;
+        let value = expression(cursor, levels)?;
         return Ok(Stmt::Assign {
             name,
             selectors,
@@ -106,7 +91,7 @@ fn simple<'a>(alloc: Global, cursor: &mut Cursor<'_, 'a>, levels: u32) -> Result
     if !selectors.is_empty() {
         return Err(Refusal::NoProgram);
     }
-    let actuals = actuals(alloc, cursor, levels)?;
+    let actuals = actuals(cursor, levels)?;
     Ok(Stmt::Call { name, actuals })
 }
 
@@ -114,18 +99,14 @@ fn simple<'a>(alloc: Global, cursor: &mut Cursor<'_, 'a>, levels: u32) -> Result
 /// `if = "if" expression "then" body alternative .`
 #[cycle(statement)]
 #[tactic(auto, using(crate::proofs::Built::built_statements), unfolding(reading::specs::Statements::conditional))]
-fn conditional<'a>(
-    alloc: Global,
-    cursor: &mut Cursor<'_, 'a>,
-    levels: u32,
-) -> Result<Stmt<'a>, Refusal>
+fn conditional<'a>(cursor: &mut Cursor<'_, 'a>, levels: u32) -> Read<Stmt<'a>>
     ensures { Makes stmt_outline (spec.conditional levels (spec.statement levels) cursor.old.rest.now)
         result cursor.new }
 {
     let place = cursor.expect_word(Word::If)?;
-    let condition = guard(alloc, cursor, levels, Word::Then)?;
-    let consequence = made_beside!(body(alloc, cursor, levels), condition);
-    let alternative = made_beside!(alternative(alloc, cursor, levels), condition, consequence);
+    let condition = guard(cursor, levels, Word::Then)?;
+    let consequence = made_beside!(body(cursor, levels), condition);
+    let alternative = made_beside!(alternative(cursor, levels), condition, consequence);
     Ok(Stmt::If {
         place,
         condition,
@@ -138,35 +119,27 @@ fn conditional<'a>(
 /// `alternative = [ "else" body ] .`
 #[cycle(statement)]
 #[tactic(auto, unfolding(reading::specs::Statements::alternative))]
-fn alternative<'a>(
-    alloc: Global,
-    cursor: &mut Cursor<'_, 'a>,
-    levels: u32,
-) -> Result<Option<Box<Stmt<'a>>>, Refusal>
+fn alternative<'a>(cursor: &mut Cursor<'_, 'a>, levels: u32) -> Read<Option<Box<Stmt<'a>>>>
     ensures { Makes alternative_outline (spec.alternative levels (spec.statement levels) cursor.old.rest.now) result
         cursor.new }
 {
     let Some(_) = cursor.take_word(Word::Else) else {
         return Ok(None);
     };
-    body(alloc, cursor, levels).map(Some)
+    body(cursor, levels).map(Some)
 }
 
 /// A while statement (6.8.3.8), below which `levels` levels are left.
 /// `while = "while" expression "do" body .`
 #[cycle(statement)]
 #[tactic(auto, using(crate::proofs::Built::built_statements), unfolding(reading::specs::Statements::while_loop))]
-fn while_loop<'a>(
-    alloc: Global,
-    cursor: &mut Cursor<'_, 'a>,
-    levels: u32,
-) -> Result<Stmt<'a>, Refusal>
+fn while_loop<'a>(cursor: &mut Cursor<'_, 'a>, levels: u32) -> Read<Stmt<'a>>
     ensures { Makes stmt_outline (spec.while_loop levels (spec.statement levels) cursor.old.rest.now)
         result cursor.new }
 {
     let place = cursor.expect_word(Word::While)?;
-    let condition = guard(alloc, cursor, levels, Word::Do)?;
-    let body = made_beside!(body(alloc, cursor, levels), condition);
+    let condition = guard(cursor, levels, Word::Do)?;
+    let body = made_beside!(body(cursor, levels), condition);
     Ok(Stmt::While {
         place,
         condition,
@@ -178,18 +151,14 @@ fn while_loop<'a>(
 /// `repeat = "repeat" statements "until" expression .`
 #[cycle(statement)]
 #[tactic(auto, using(crate::proofs::Built::built_statements), unfolding(reading::specs::Statements::repeat_loop))]
-fn repeat_loop<'a>(
-    alloc: Global,
-    cursor: &mut Cursor<'_, 'a>,
-    levels: u32,
-) -> Result<Stmt<'a>, Refusal>
+fn repeat_loop<'a>(cursor: &mut Cursor<'_, 'a>, levels: u32) -> Read<Stmt<'a>>
     ensures { Makes stmt_outline (spec.repeat_loop levels (spec.statement levels) cursor.old.rest.now)
         result cursor.new }
 {
     let place = cursor.expect_word(Word::Repeat)?;
-    let statements = statements(alloc, cursor, levels);
+    let statements = statements(cursor, levels);
     let statements = cursor.followed_by(statements, Kind::Word(Word::Until))?;
-    let condition = expression(alloc, cursor, levels)?;
+    let condition = expression(cursor, levels)?;
     Ok(Stmt::Repeat {
         place,
         statements,
@@ -201,17 +170,13 @@ fn repeat_loop<'a>(
 /// `for = control initial expression "do" body .`
 #[cycle(statement)]
 #[tactic(auto, using(crate::proofs::Built::built_statements), unfolding(reading::specs::Statements::for_loop))]
-fn for_loop<'a>(
-    alloc: Global,
-    cursor: &mut Cursor<'_, 'a>,
-    levels: u32,
-) -> Result<Stmt<'a>, Refusal>
+fn for_loop<'a>(cursor: &mut Cursor<'_, 'a>, levels: u32) -> Read<Stmt<'a>>
     ensures { Makes stmt_outline (spec.for_loop levels (spec.statement levels) cursor.old.rest.now) result cursor.new }
 {
     let (place, variable) = control(cursor)?;
-    let (first, direction) = initial(alloc, cursor, levels)?;
-    let last = made_beside!(guard(alloc, cursor, levels, Word::Do), first);
-    let body = made_beside!(body(alloc, cursor, levels), first, last);
+    let (first, direction) = initial(cursor, levels)?;
+    let last = made_beside!(guard(cursor, levels, Word::Do), first);
+    let body = made_beside!(body(cursor, levels), first, last);
     Ok(Stmt::For {
         place,
         variable,
@@ -225,7 +190,7 @@ fn for_loop<'a>(
 /// The place of a for statement, and its control variable.
 /// `control = "for" identifier ":=" .`
 #[tactic(auto, unfolding(reading::specs::Statements::control))]
-fn control<'a>(cursor: &mut Cursor<'_, 'a>) -> Result<(Place, Name<'a>), Refusal>
+fn control<'a>(cursor: &mut Cursor<'_, 'a>) -> Read<(Place, Name<'a>)>
     ensures { Makes control_lexeme (spec.control cursor.old.rest.now) result cursor.new }
 {
     let place = cursor.expect_word(Word::For)?;
@@ -237,14 +202,10 @@ fn control<'a>(cursor: &mut Cursor<'_, 'a>) -> Result<(Place, Name<'a>), Refusal
 /// The first bound of a for statement, and its direction.
 /// `initial = expression ( "to" | "downto" ) .`
 #[tactic(auto, unfolding(reading::specs::Statements::initial))]
-fn initial<'a>(
-    alloc: Global,
-    cursor: &mut Cursor<'_, 'a>,
-    levels: u32,
-) -> Result<(Expr<'a>, Direction), Refusal>
+fn initial<'a>(cursor: &mut Cursor<'_, 'a>, levels: u32) -> Read<(Expr<'a>, Direction)>
     ensures { Makes initial_outline (spec.initial levels cursor.old.rest.now) result cursor.new }
 {
-    let first = expression(alloc, cursor, levels)?;
+    let first = expression(cursor, levels)?;
     beside(first, cursor.expect_direction())
 }
 
@@ -252,12 +213,12 @@ fn initial<'a>(
 /// `case = "case" expression "of" arms .`
 #[cycle(statement)]
 #[tactic(auto, using(crate::proofs::Built::built_statements), unfolding(reading::specs::Statements::case_of))]
-fn case_of<'a>(alloc: Global, cursor: &mut Cursor<'_, 'a>, levels: u32) -> Result<Stmt<'a>, Refusal>
+fn case_of<'a>(cursor: &mut Cursor<'_, 'a>, levels: u32) -> Read<Stmt<'a>>
     ensures { Makes stmt_outline (spec.case_of levels (spec.statement levels) cursor.old.rest.now) result cursor.new }
 {
     let place = cursor.expect_word(Word::Case)?;
-    let index = guard(alloc, cursor, levels, Word::Of)?;
-    let (constants, arms, semicolon) = made_beside!(arms(alloc, cursor, levels), index);
+    let index = guard(cursor, levels, Word::Of)?;
+    let (constants, arms, semicolon) = made_beside!(arms(cursor, levels), index);
     Ok(Stmt::Case {
         place,
         index,
@@ -272,18 +233,17 @@ fn case_of<'a>(alloc: Global, cursor: &mut Cursor<'_, 'a>, levels: u32) -> Resul
 /// `arms = case-constants statement { ";" case-constants statement } [ ";" ] "end" .`
 #[cycle(statement)]
 fn arms<'a>(
-    alloc: Global,
     cursor: &mut Cursor<'_, 'a>,
     levels: u32,
-) -> Result<(Vec<Vec<Constant<'a>>>, Vec<Stmt<'a>>, bool), Refusal>
+) -> Read<(Vec<Vec<Constant<'a>>>, Vec<Stmt<'a>>, bool)>
     ensures { MakesRows case_outlines (spec.parts_to_end (spec.arm levels (spec.statement levels)) cursor.old.rest.now)
         result cursor.new }
 {
-    let mut constants = Vec::new(alloc);
-    let mut arms = Vec::new(alloc);
+    let mut constants = Vec::new(cursor.alloc);
+    let mut arms = Vec::new(cursor.alloc);
     loop {
-        put(&mut constants, row(alloc, cursor))?;
-        put(&mut arms, statement(alloc, cursor, levels))?;
+        put(&mut constants, row(cursor))?;
+        put(&mut arms, statement(cursor, levels))?;
         if let Some(semicolon) = behind_arm(cursor)? {
             return Ok((constants, arms, semicolon));
         }
@@ -294,18 +254,14 @@ fn arms<'a>(
 /// `with = "with" records "do" body .`
 #[cycle(statement)]
 #[tactic(auto, using(crate::proofs::Built::built_statements), unfolding(reading::specs::Statements::with_fields))]
-fn with_fields<'a>(
-    alloc: Global,
-    cursor: &mut Cursor<'_, 'a>,
-    levels: u32,
-) -> Result<Stmt<'a>, Refusal>
+fn with_fields<'a>(cursor: &mut Cursor<'_, 'a>, levels: u32) -> Read<Stmt<'a>>
     ensures { Makes stmt_outline (spec.with_fields levels (spec.statement levels) cursor.old.rest.now)
         result cursor.new }
 {
     let place = cursor.expect_word(Word::With)?;
-    let records = records(alloc, cursor, levels);
+    let records = records(cursor, levels);
     let records = cursor.followed_by(records, Kind::Word(Word::Do))?;
-    let body = body(alloc, cursor, levels)?;
+    let body = body(cursor, levels)?;
     Ok(Stmt::With {
         place,
         records,
@@ -315,18 +271,14 @@ fn with_fields<'a>(
 
 /// The variables of records behind `with`.
 /// `records = record-variable { "," record-variable } .`
-fn records<'a>(
-    alloc: Global,
-    cursor: &mut Cursor<'_, 'a>,
-    levels: u32,
-) -> Result<Vec<RecordVariable<'a>>, Refusal>
+fn records<'a>(cursor: &mut Cursor<'_, 'a>, levels: u32) -> Read<Vec<RecordVariable<'a>>>
     ensures { Makes records_outlines (separated Symbol.Comma (spec.record_variable levels) cursor.old.rest.now) result
         cursor.new }
 {
     // Most have one.
-    let mut records = Vec::with_capacity(alloc, 1)?;
+    let mut records = Vec::with_capacity(cursor.alloc, 1)?;
     loop {
-        put(&mut records, record_variable(alloc, cursor, levels))?;
+        put(&mut records, record_variable(cursor, levels))?;
         let Some(_) = cursor.take_symbol(Symbol::Comma) else {
             return Ok(records);
         };
@@ -336,15 +288,11 @@ fn records<'a>(
 /// A variable of a record: a name and its selectors.
 /// `record-variable = identifier selectors .`
 #[tactic(auto, unfolding(reading::specs::Statements::record_variable))]
-fn record_variable<'a>(
-    alloc: Global,
-    cursor: &mut Cursor<'_, 'a>,
-    levels: u32,
-) -> Result<RecordVariable<'a>, Refusal>
+fn record_variable<'a>(cursor: &mut Cursor<'_, 'a>, levels: u32) -> Read<RecordVariable<'a>>
     ensures { Makes record_outline (spec.record_variable levels cursor.old.rest.now) result cursor.new }
 {
     let name = cursor.expect_name()?;
-    let (selectors, indexes) = selectors(alloc, cursor, levels)?;
+    let (selectors, indexes) = selectors(cursor, levels)?;
     Ok(RecordVariable {
         name,
         selectors,
@@ -355,27 +303,18 @@ fn record_variable<'a>(
 /// A statement that is part of another one, below which `levels` levels are left.
 /// `body = statement .`
 #[cycle(statement)]
-fn body<'a>(
-    alloc: Global,
-    cursor: &mut Cursor<'_, 'a>,
-    levels: u32,
-) -> Result<Box<Stmt<'a>>, Refusal>
+fn body<'a>(cursor: &mut Cursor<'_, 'a>, levels: u32) -> Read<Box<Stmt<'a>>>
     ensures { Makes body_outline (spec.statement levels cursor.old.rest.now) result cursor.new }
 {
-    boxed(alloc, statement(alloc, cursor, levels))
+    boxed(cursor.alloc, statement(cursor, levels))
 }
 
 /// An expression and the word symbol behind it.
 /// `guard = expression word .`
 #[tactic(auto, unfolding(reading::specs::Statements::guard))]
-fn guard<'a>(
-    alloc: Global,
-    cursor: &mut Cursor<'_, 'a>,
-    levels: u32,
-    word: Word,
-) -> Result<Expr<'a>, Refusal>
+fn guard<'a>(cursor: &mut Cursor<'_, 'a>, levels: u32, word: Word) -> Read<Expr<'a>>
     ensures { Makes expr_outline (spec.guard levels word cursor.old.rest.now) result cursor.new }
 {
-    let expression = expression(alloc, cursor, levels);
+    let expression = expression(cursor, levels);
     cursor.followed_by(expression, Kind::Word(word))
 }

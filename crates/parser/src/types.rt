@@ -4,10 +4,8 @@ ghost use Rattle.reading.specs.Trees.{type_outline};
 use crate::denoter::denoter;
 use crate::lists::Item;
 use lexer::token::{Kind, Symbol};
-use reading::refusal::Refusal;
-use std::alloc::Global;
 use syntax_tree::TypeDefinition;
-use token_cursor::cursor::Cursor;
+use token_cursor::{Cursor, Read};
 
 /// The definition of a type (6.4.1).
 /// `type-definition = identifier "=" type-denoter ";" .`
@@ -17,10 +15,10 @@ impl<'a> Item<'a> for TypeDefinition<'a> {
     ghost rule = { type_definition };
 
     #[tactic(auto, unfolding(reading::specs::Declarations::type_definition))]
-    fn read(alloc: Global, cursor: &mut Cursor<'_, 'a>, levels: u32) -> Result<Self, Refusal> {
+    fn read(cursor: &mut Cursor<'_, 'a>, levels: u32) -> Read<Self> {
         let name = cursor.expect_name();
         let name = cursor.followed_by(name, Kind::Symbol(Symbol::Equal))?;
-        let denoter = denoter(alloc, cursor, levels);
+        let denoter = denoter(cursor, levels);
         let denoter = cursor.followed_by(denoter, Kind::Symbol(Symbol::Semicolon))?;
         Ok(TypeDefinition { name, denoter })
     }

@@ -9,28 +9,24 @@ use crate::constants::constant;
 use crate::lists::enclosed;
 use lexer::token::Symbol;
 use reading::refusal::Refusal;
-use std::alloc::Global;
 use syntax_tree::{Constant, ConstantValue, Name, TypeDenoter};
-use token_cursor::cursor::Cursor;
+use token_cursor::{Cursor, Read};
 
 /// An enumerated type (6.4.2.3).
 /// `enumerated-type = "(" identifier { "," identifier } ")" .`
 #[tactic(auto, using(crate::proofs::Denoters::enumerations), unfolding(reading::specs::Declarations::enumerated))]
-pub(crate) fn enumerated<'a>(
-    alloc: Global,
-    cursor: &mut Cursor<'_, 'a>,
-) -> Result<TypeDenoter<'a>, Refusal>
+pub(crate) fn enumerated<'a>(cursor: &mut Cursor<'_, 'a>) -> Read<TypeDenoter<'a>>
     ensures { Makes denoter_outline (enumerated cursor.old.rest.now) result cursor.new }
 {
     cursor.expect_symbol(Symbol::OpenParenthesis)?;
-    let constants = enclosed(alloc, cursor, Symbol::Comma, Symbol::CloseParenthesis)?;
+    let constants = enclosed(cursor, Symbol::Comma, Symbol::CloseParenthesis)?;
     Ok(TypeDenoter::Enumerated { constants })
 }
 
 /// A name, or a subrange type (6.4.2.4): a name is one alone, another constant only before `..`.
 /// `name-or-subrange = identifier | constant ".." constant .`
 #[tactic(auto, using(crate::proofs::Denoters::subranges), unfolding(reading::specs::Declarations::name_or_subrange))]
-pub(crate) fn name_or_subrange<'a>(cursor: &mut Cursor<'_, 'a>) -> Result<TypeDenoter<'a>, Refusal>
+pub(crate) fn name_or_subrange<'a>(cursor: &mut Cursor<'_, 'a>) -> Read<TypeDenoter<'a>>
     ensures { Makes denoter_outline (name_or_subrange cursor.old.rest.now) result cursor.new }
 {
     let first = constant(cursor)?;

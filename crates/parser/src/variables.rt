@@ -5,10 +5,8 @@ use crate::denoter::denoter;
 use crate::lists::Item;
 use crate::names::field_names;
 use lexer::token::{Kind, Symbol};
-use reading::refusal::Refusal;
-use std::alloc::Global;
 use syntax_tree::VariableGroup;
-use token_cursor::cursor::Cursor;
+use token_cursor::{Cursor, Read};
 
 /// Variables that are declared together (6.5.1).
 /// `variable-declaration = names type-denoter ";" .`
@@ -18,9 +16,9 @@ impl<'a> Item<'a> for VariableGroup<'a> {
     ghost rule = { group };
 
     #[tactic(auto, unfolding(reading::specs::Declarations::group))]
-    fn read(alloc: Global, cursor: &mut Cursor<'_, 'a>, levels: u32) -> Result<Self, Refusal> {
-        let names = field_names(alloc, cursor)?;
-        let denoter = denoter(alloc, cursor, levels);
+    fn read(cursor: &mut Cursor<'_, 'a>, levels: u32) -> Read<Self> {
+        let names = field_names(cursor)?;
+        let denoter = denoter(cursor, levels);
         let denoter = cursor.followed_by(denoter, Kind::Symbol(Symbol::Semicolon))?;
         Ok(VariableGroup { names, denoter })
     }

@@ -8,7 +8,6 @@ use Rattle.text_lines.specs.Words.{parted}
 use Rattle.text_lines.proofs.Bytes.{above_append, are_above}
 use Rattle.text_lines.proofs.Digits.{decimal_above}
 use Rattle.text_lines.proofs.Parting.{parted-again, parted-spelled, some_is}
-use Rattle.pcode_assembler.specs.declared.table.TheConstants.{TEMPLATES}
 use Rattle.std.specs.Option.{option_map}
 use Rattle.std.specs.Str.{bytes_eq}
 use Rattle.std.proofs.lemmas.Bool.{and_from, and_parts}
@@ -22,7 +21,7 @@ use Rattle.pcode_assembler.specs.declared.content.LineWord.TheVariants as word
 use Rattle.pcode_assembler.specs.declared.instr.Instr.{Instr}
 use Rattle.pcode_assembler.specs.Lines.{alone, before_blank, column_and_kind, content_at, content_of, fits, is_instruction_word, is_place}
 use Rattle.pcode_assembler.specs.Lines.{kind_of, known_word, line_of, line_word, part_of, part_of_word, place, site, with_words, words_behind}
-use Rattle.pcode_assembler.specs.Table.{operand_words, template, word_of}
+use Rattle.pcode_assembler.specs.Table.{operand_words, template, templates, word_of}
 use Rattle.pcode_assembler.specs.Table.{with_words as instruction_with}
 use Rattle.pcode_assembler.specs.Words.{both, positive}
 use Rattle.pcode_assembler.specs.Writable.{is_kind}
@@ -150,7 +149,7 @@ passes test [] t e = absurd cc
 passes test (i ∷ is) t e = found_passes test i t (find test is) (test i) refl e (passes test is t)
 
 template_is : (first : List ℕ) (t : Instr) → template first ≡ Some t → first ≡ word_of t
-template_is first t e = sym ((bytes_eq-Decides (word_of t) first).0 (passes (λ i. bytes_eq (word_of i) first) TEMPLATES t e))
+template_is first t e = sym ((bytes_eq-Decides (word_of t) first).0 (passes (λ i. bytes_eq (word_of i) first) templates t e))
 
 template_word : (first : List ℕ) (w : LineWord) → option_map word.Instruction (template first) ≡ Some w → IsWordOf first w
 template_word first w e =

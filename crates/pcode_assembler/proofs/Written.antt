@@ -1,5 +1,5 @@
 -- The lines that a writer of code puts one behind the other are the spelling.
-use Rattle.std.proofs.Common.{◌≡◌, ℕ, suc, ◌+◌, ◌<◌, pos, Bool, true, false, List, [], ◌∷◌, ◌++◌, length, map, take, get_or, refl, sym, ap, ◌∙◌, arith}
+use Rattle.std.proofs.Common.{◌≡◌, ℕ, suc, ◌+◌, ◌<◌, Bool, true, false, List, [], ◌∷◌, ◌++◌, length, map, take, get_or, refl, sym, ap, ◌∙◌, arith}
 use Rattle.std.proofs.Common.{append_assoc, codes}
 use Rattle.std.specs.List.{flat_map}
 use Rattle.std.proofs.Math.Seq.{take-suc}
@@ -10,20 +10,15 @@ use Rattle.text_lines.specs.Lines.{ended}
 use Rattle.pcode_assembler.specs.declared.content.Content.{Content}
 use Rattle.pcode_assembler.specs.declared.content.Content.TheVariants as content
 use Rattle.pcode_assembler.specs.declared.instr.Instr.{Instr}
-use Rattle.pcode_assembler.specs.declared.instr.Instr.TheVariants as instr
 use Rattle.pcode_assembler.specs.Contents.{body_lines, label_rows, text_of}
 use Rattle.pcode_assembler.specs.Lines.{has_numbers, line_of}
 use Rattle.pcode_assembler.specs.Text.{heading}
 use Rattle.pcode_assembler.specs.Writing.{Marks, have_numbers, instruction_line, label_if, lines_text}
 
--- what stands for an instruction past the end
-abbrev none_such : Instr
-none_such = instr.LoadConstant (pos 0)
-
-take_next : (xs : List Instr) (k : ℕ) → k < length xs → take (k + 1) xs ≡ take k xs ++ get_or xs k none_such ∷ []
-take_next xs k within =
+take_next : (xs : List Instr) (k : ℕ) (i : Instr) → k < length xs → i ≡ get_or xs k i → take (k + 1) xs ≡ take k xs ++ i ∷ []
+take_next xs k i within here =
     let n : k + 1 ≡ suc k = omega arith in
-    ap (λ n. take n xs) n ∙ take-suc xs k none_such within
+    ap (λ n. take n xs) n ∙ take-suc xs k i within ∙ ap (λ j. take k xs ++ j ∷ []) (sym here)
 
 pub body_snoc : (code : List Instr) (place : ℕ) (xs : List Instr) (i : Instr)
     → body_lines code place (xs ++ i ∷ []) ≡ body_lines code place xs ++ (label_rows code (place + length xs) ++ content.Instruction i ∷ [])
@@ -46,11 +41,11 @@ length_take : (xs : List Instr) (k : ℕ) → k < length xs → length (take k x
 length_take xs k within = grind (arith, common_steps)
 
 -- one instruction more is written, behind its label
-pub written_next : (code : List Instr) (k : ℕ) (marks : List Bool) (start before middle new : List ℕ) → Marks code code marks → k < length code
-    → before ≡ start ++ lines_text (body_lines code 0 (take k code)) → middle ≡ before ++ lines_text (label_if (get_or marks k false) k)
-    → new ≡ middle ++ ended (instruction_line (get_or code k none_such)) → new ≡ start ++ lines_text (body_lines code 0 (take (k + 1) code))
-written_next code k marks start before middle new marked within before_is middle_is new_is =
-    let i = get_or code k none_such in
+pub written_next : (code : List Instr) (k : ℕ) (i : Instr) (marks : List Bool) (start before middle new : List ℕ) → Marks code code marks
+    → k < length code → i ≡ get_or code k i → before ≡ start ++ lines_text (body_lines code 0 (take k code))
+    → middle ≡ before ++ lines_text (label_if (get_or marks k false) k)
+    → new ≡ middle ++ ended (instruction_line i) → new ≡ start ++ lines_text (body_lines code 0 (take (k + 1) code))
+written_next code k i marks start before middle new marked within here before_is middle_is new_is =
     let labels : label_if (get_or marks k false) k ≡ label_rows code (0 + length (take k code)) =
     ap (λ m. label_if m k) (marked.each k within) ∙ ap (label_rows code) (omega (arith, length_take code k within)) in
     let row = label_rows code (0 + length (take k code)) in
@@ -63,7 +58,7 @@ written_next code k marks start before middle new marked within before_is middle
     ∙ ap (λ t. start ++ (front ++ t)) (sym (lines_append row (content.Instruction i ∷ [])))
     ∙ ap (λ t. start ++ t) (sym (lines_append (body_lines code 0 (take k code)) (row ++ content.Instruction i ∷ [])))
     ∙ ap (λ ls. start ++ lines_text ls) (sym (body_snoc code 0 (take k code) i))
-    ∙ ap (λ xs. start ++ lines_text (body_lines code 0 xs)) (sym (take_next code k within))
+    ∙ ap (λ xs. start ++ lines_text (body_lines code 0 xs)) (sym (take_next code k i within here))
 
 numbers_snoc : (xs : List Instr) (i : Instr) → have_numbers xs ≡ true → has_numbers i ≡ true → have_numbers (xs ++ i ∷ []) ≡ true
 numbers_snoc [] i all one = and_from _ _ one refl
@@ -71,9 +66,9 @@ numbers_snoc (x ∷ xs) i all one =
     let parts = and_parts (has_numbers x) (have_numbers xs) all in
     and_from _ _ parts.0 (numbers_snoc xs i parts.1 one)
 
-pub numbers_next : (code : List Instr) (k : ℕ) → k < length code → have_numbers (take k code) ≡ true
-    → has_numbers (get_or code k none_such) ≡ true → have_numbers (take (k + 1) code) ≡ true
-numbers_next code k within all one = ap have_numbers (take_next code k within) ∙ numbers_snoc (take k code) (get_or code k none_such) all one
+pub numbers_next : (code : List Instr) (k : ℕ) (i : Instr) → k < length code → i ≡ get_or code k i → have_numbers (take k code) ≡ true
+    → has_numbers i ≡ true → have_numbers (take (k + 1) code) ≡ true
+numbers_next code k i within here all one = ap have_numbers (take_next code k i within here) ∙ numbers_snoc (take k code) i all one
 
 -- ---- the whole text
 

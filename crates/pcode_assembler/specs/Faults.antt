@@ -4,13 +4,13 @@ use Rattle.pcode_assembler.specs.declared.fault.AsmRule.{AsmRule}
 use Rattle.pcode_assembler.specs.declared.fault.AsmRule.TheVariants as rule
 
 -- the number of a rule behind the letter A
-abbrev pub number_of : AsmRule → ℕ
-number_of rule.UnknownLine = 1
-number_of rule.Operand = 2
-number_of rule.Target = 3
-number_of rule.LabelTwice = 4
-number_of rule.TooMany = 5
-number_of rule.CutOff = 6
+abbrev pub code_of : AsmRule → ℕ
+code_of rule.UnknownLine = 1
+code_of rule.Operand = 2
+code_of rule.Target = 3
+code_of rule.LabelTwice = 4
+code_of rule.TooMany = 5
+code_of rule.CutOff = 6
 
 -- a rule, unless it is kept
 abbrev pub unless : AsmRule → Bool → Option AsmRule

@@ -1,11 +1,10 @@
 -- The table of the text's instructions: the word and the operands of each, as they are spelled and as they are read.
 -- It does not say what an instruction does, nor what its operands name.
-use Rattle.std.specs.Prelude.{ℕ, ℤ, List, [], ◌∷◌, Option, Some, None, codes, decimal, find, unwrap_or}
+use Rattle.std.specs.Prelude.{ℕ, ℤ, pos, List, [], ◌∷◌, Option, Some, None, codes, decimal, find, unwrap_or}
 use Rattle.std.specs.Fmt.{signed_decimal}
 use Rattle.std.specs.Str.{bytes_eq}
 use Rattle.std.specs.Option.{option_map, option_or}
 use Rattle.text_lines.specs.Numerals.{natural}
-use Rattle.pcode_assembler.specs.declared.table.TheConstants.{TEMPLATES}
 use Rattle.pcode_assembler.specs.declared.instr.Instr.{Instr}
 use Rattle.pcode_assembler.specs.declared.instr.Instr.TheVariants as instr
 use Rattle.pcode_assembler.specs.declared.table.Shape.{Shape}
@@ -113,9 +112,26 @@ word_of i =
     (option_or (option_or (option_or (cell_word i) (number_word i)) (option_or (set_word i) (flow_word i)))
     (option_or (text_word i) (check_word i))) (codes "   ")
 
+-- an instruction of each word, whatever its operands
+abbrev pub templates : List Instr
+templates =
+    instr.LoadConstant (pos 0) ∷ instr.LoadSet 0 ∷ instr.LoadAddress 0 0 ∷ instr.Load 0 0 ∷ instr.Store 0 0 ∷
+    instr.LoadIndirect 0 ∷ instr.StoreIndirect ∷ instr.LoadMany 0 ∷ instr.StoreMany 0 ∷ instr.Increase 0 ∷
+    instr.IndexAddress (pos 0) 0 ∷ instr.Add ∷ instr.Subtract ∷ instr.Multiply ∷ instr.Divide ∷ instr.Modulo ∷
+    instr.Negate ∷ instr.Absolute ∷ instr.Square ∷ instr.Odd ∷ instr.Not ∷ instr.And ∷ instr.Or ∷ instr.Equal ∷
+    instr.NotEqual ∷ instr.Less ∷ instr.LessOrEqual ∷ instr.Greater ∷ instr.GreaterOrEqual ∷ instr.Compare 0 ∷
+    instr.Singleton ∷ instr.SetRange ∷ instr.Union ∷ instr.Intersection ∷ instr.Difference ∷ instr.IsMember ∷
+    instr.SetEqual ∷ instr.SetNotEqual ∷ instr.SetInside ∷ instr.SetAround ∷ instr.Jump 0 ∷ instr.JumpIfFalse 0 ∷
+    instr.MarkStack 0 ∷ instr.CallProcedure 0 0 ∷ instr.Enter 0 0 ∷ instr.Return 0 ∷ instr.ReadInteger 0 ∷
+    instr.ReadChar 0 ∷ instr.ReadLine 0 ∷ instr.EndOfLine 0 ∷ instr.EndOfFile ∷ instr.CheckInput 0 (pos 0) (pos 0) ∷
+    instr.WriteInteger ∷ instr.WriteChar ∷ instr.WriteBoolean ∷ instr.WriteString 0 ∷ instr.WriteLine ∷ instr.Stop ∷
+    instr.CheckRange 0 (pos 0) (pos 0) ∷ instr.CheckZero 0 ∷ instr.CheckDefined 0 0 ∷ instr.CheckSum 0 ∷
+    instr.CheckDifference 0 ∷ instr.CheckProduct 0 ∷ instr.CheckSquare 0 ∷ instr.CheckMembers 0 ∷
+    instr.CheckSet 0 (pos 0) (pos 0) ∷ instr.Fail 0 ∷ []
+
 -- an instruction of a word, if there is one
 abbrev pub template : List ℕ → Option Instr
-template word = find (λ i. bytes_eq (word_of i) word) TEMPLATES
+template word = find (λ i. bytes_eq (word_of i) word) templates
 
 -- ---- operands
 

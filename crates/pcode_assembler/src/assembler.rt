@@ -10,12 +10,9 @@ ghost use Rattle.pcode_assembler.specs.Lines.{content_of};
 ghost use Rattle.pcode_assembler.specs.Text as spec;
 ghost use Rattle.pcode_assembler.specs.Text.{body, first_fault, frame_fault};
 
-use crate::above::Above;
-use crate::code::{Code, Point, Site};
 use crate::content::{Content, LineWord, line_word};
-use crate::fault::{AsmFault, AsmRule};
 use crate::labels::Labels;
-use crate::lines::{check_end, next_above_last};
+use crate::{Above, AsmFault, AsmRule, Code, Point, Site, check_end, next_above_last};
 use std::alloc::{AllocError, Global};
 
 const HEADING: &[u8] = b"pcode 1";

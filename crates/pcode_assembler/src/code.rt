@@ -1,4 +1,4 @@
-use crate::instr::Instr;
+use crate::Instr;
 
 /// A place of the source at which a run may commit an error, in plain numbers.
 #[derive(Clone, Copy)]

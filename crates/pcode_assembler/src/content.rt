@@ -1,9 +1,9 @@
 ghost use Rattle.std.specs.Prelude.{◌≡◌};
 ghost use Rattle.pcode_assembler.specs.Lines as spec;
 
-use crate::instr::Instr;
-use crate::table::{ID_LIMIT, Shape, template};
+use crate::table::template;
 use crate::words::positive;
+use crate::{ID_LIMIT, Instr, Shape};
 use text_lines::numerals::natural;
 use text_lines::words::parted;
 
@@ -56,10 +56,7 @@ pub(crate) fn line_word(line: &[u8]) -> Option<LineWord>
 fn first_word(line: &[u8]) -> &[u8]
     ensures { result.now ≡ spec.first_word line.now }
 {
-    match parted(line) {
-        None => line,
-        Some((word, _)) => word,
-    }
+    parted(line).map_or(line, |(word, _)| word)
 }
 
 /// Whether an instruction's word stands first in a line.
@@ -73,10 +70,7 @@ pub(crate) fn is_instruction(line: &[u8]) -> bool
 pub(crate) fn label_of(line: &[u8]) -> Option<u32>
     ensures { result ≡ spec.label_of line.now }
 {
-    match line.strip_prefix(b"label ") {
-        None => None,
-        Some(number) => natural(ID_LIMIT, number),
-    }
+    natural(ID_LIMIT, line.strip_prefix(b"label ")?)
 }
 
 impl LineWord {
@@ -106,11 +100,10 @@ impl LineWord {
         ensures { result ≡ spec.alone self }
     {
         match self {
-            LineWord::Instruction(instr) => match instr.shape() {
-                Shape::Nothing => Some(Content::Instruction(instr)),
-                _ => None,
-            },
-            LineWord::Site | LineWord::Point | LineWord::Label => None,
+            LineWord::Instruction(instr) if matches!(instr.shape(), Shape::Nothing) => {
+                Some(Content::Instruction(instr))
+            }
+            _ => None,
         }
     }
 
@@ -120,14 +113,11 @@ impl LineWord {
     {
         match self {
             LineWord::Site => site(words),
-            LineWord::Point => place(words).map(|place| Content::Point {
-                line: place.0,
-                column: place.1,
-            }),
+            LineWord::Point => place(words).map(|(line, column)| Content::Point { line, column }),
             LineWord::Label => natural(ID_LIMIT, words).map(|number| Content::Label { number }),
             LineWord::Instruction(instr) => instr
                 .with_words(words)
-                .map(|instr| Content::Instruction(instr)),
+                .map(|i| Content::Instruction(i)),
         }
     }
 }
@@ -145,10 +135,8 @@ fn site(words: &[u8]) -> Option<Content>
     ensures { result ≡ spec.site words.now }
 {
     let (line, words) = parted(words)?;
-    match positive(PLACE_LIMIT, line).zip(column_and_kind(words)) {
-        None => None,
-        Some((line, (column, kind))) => Some(Content::Site { line, column, kind }),
-    }
+    let (line, (column, kind)) = positive(PLACE_LIMIT, line).zip(column_and_kind(words))?;
+    Some(Content::Site { line, column, kind })
 }
 
 fn column_and_kind(words: &[u8]) -> Option<(u32, u8)>
@@ -161,10 +149,7 @@ fn column_and_kind(words: &[u8]) -> Option<(u32, u8)>
 fn kind_of(word: &[u8]) -> Option<u8>
     ensures { result ≡ spec.kind_of word.now }
 {
-    match positive(KIND_LIMIT, word) {
-        None => None,
-        Some(kind) => Some(kind as u8),
-    }
+    Some(positive(KIND_LIMIT, word)? as u8)
 }
 
 impl Content {

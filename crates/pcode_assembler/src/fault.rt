@@ -3,7 +3,7 @@ ghost use Rattle.memory.specs.Refused.{the_refusal};
 ghost use Rattle.pcode_assembler.specs.declared.fault.AsmFault.TheVariants.{Memory};
 
 use memory::Refused;
-use std::alloc::{AllocError, AllocFailed};
+use std::alloc::AllocError;
 use thiserror::Error;
 
 /// The rule of a code's text that a line breaks. A1 to A6 are the codes that a user is told.
@@ -40,11 +40,11 @@ pub enum AsmFault {
 }
 
 impl AsmRule {
-    ghost use Rattle.pcode_assembler.specs.Faults.{number_of, unless};
+    ghost use Rattle.pcode_assembler.specs.Faults.{code_of, unless};
 
     /// Its number behind the letter A, from 1 to 6.
     pub fn number(&self) -> u8
-        ensures { result ≡ number_of self.now }
+        ensures { result ≡ code_of self.now }
     {
         match self {
             AsmRule::UnknownLine => 1,
@@ -68,14 +68,6 @@ impl From<AllocError> for AsmFault {
     ghost from_gives = { λ _ e. e ≡ Memory the_refusal };
 
     fn from(error: AllocError) -> AsmFault {
-        AsmFault::Memory(error.into())
-    }
-}
-
-impl<T: Drop> From<AllocFailed<T>> for AsmFault {
-    ghost from_gives = { λ _ e. e ≡ Memory the_refusal };
-
-    fn from(error: AllocFailed<T>) -> AsmFault {
         AsmFault::Memory(error.into())
     }
 }

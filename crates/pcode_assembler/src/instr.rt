@@ -1,3 +1,5 @@
+use crate::SetMembers;
+
 /// An instruction of the stack machine. `level` counts the static links to follow (0 to 15); `offset` counts
 /// cells (0 to 16,777,215), so do `length` and `size` (0 to 65,536), and `variables` and `evaluation` (0 to
 /// 16,777,216); `target` is the index of an instruction, `site` and `point` are ids of the code's tables. Where
@@ -7,7 +9,7 @@ pub enum Instr {
     /// `ldc c`: push a number.
     LoadConstant { value: i32 },
     /// `lds h`: push a set, a bit for each member: m is bit m of `members`.
-    LoadSet { members: u128 },
+    LoadSet { members: SetMembers },
     /// `lda d o`: push base(d) + o.
     LoadAddress { level: u8, offset: u32 },
     /// `lod d o`: push the cell at base(d) + o.

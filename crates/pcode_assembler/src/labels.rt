@@ -1,11 +1,8 @@
 ghost use Rattle.std.specs.Prelude.{◌≡◌, ◌+◌, ◌^◌, ◌<◌, IfOk, map};
 ghost use Rattle.pcode_assembler.specs.Writable.{is_below};
 
-use crate::above::Above;
 use crate::content::{Content, is_instruction, label_of};
-use crate::fault::AsmRule;
-use crate::instr::Instr;
-use crate::lines::next_above_last;
+use crate::{Above, AsmRule, Instr, next_above_last};
 use std::alloc::{AllocError, Global};
 use std::collections::HashMap;
 
@@ -63,47 +60,35 @@ impl Labels {
     }
 
     /// Notes a label, if there is one that isn't known yet, in the line of this number.
-    fn note_label(&mut self, label: Option<u32>, number: u64) -> Result<(), AllocError>
-        ensures { IfOk result (λ _. NotesLabel label number self.old self.new) }
+    fn note_label(&mut self, label: Option<u32>, line: u64) -> Result<(), AllocError>
+        ensures { IfOk result (λ _. NotesLabel label line self.old self.new) }
     {
-        let Some(label) = label else {
-            return Ok(());
-        };
+        let Some(label) = label else { return Ok(()) };
         if self.first.get(&label).is_none() {
             let place = self.instructions;
-            self.first.insert(
-                label,
-                Label {
-                    line: number,
-                    place,
-                },
-            )?;
+            self.first.insert(label, Label { line, place })?;
         }
         Ok(())
     }
 
-    /// The rule that a line breaks which says something, at its number.
-    pub(crate) fn rule_at(&self, above: &Above, number: u64, content: &Content) -> Option<AsmRule>
-        ensures { result ≡ rule_at (seen_by self.now) above.now number content.now }
+    /// The rule that a line breaks which says something, at the line's number.
+    pub(crate) fn rule_at(&self, above: &Above, line: u64, content: &Content) -> Option<AsmRule>
+        ensures { result ≡ rule_at (seen_by self.now) above.now line content.now }
     {
         match content {
             Content::Site { .. } => AsmRule::Operand.unless(above.sites < MOST),
             Content::Point { .. } => AsmRule::Operand.unless(above.points < MOST),
-            Content::Label { number: label } => {
-                AsmRule::LabelTwice.unless(self.stands_at(number, *label))
-            }
+            Content::Label { number } => AsmRule::LabelTwice.unless(self.stands_at(line, *number)),
             Content::Instruction(instr) => self.instruction_rule(above, instr),
         }
     }
 
     /// Whether a label stands first in the line of this number.
-    fn stands_at(&self, number: u64, label: u32) -> bool
-        ensures { result ≡ stands_at number ((seen_by self.now).first label) }
+    fn stands_at(&self, line: u64, label: u32) -> bool
+        ensures { result ≡ stands_at line ((seen_by self.now).first label) }
     {
-        match self.first.get(&label) {
-            None => false,
-            Some(first) => first.line == number,
-        }
+        let first = self.first.get(&label);
+        first.is_some_and(|first| first.line == line)
     }
 
     fn instruction_rule(&self, above: &Above, instr: &Instr) -> Option<AsmRule>
@@ -124,13 +109,9 @@ impl Labels {
     fn reaches(&self, target: Option<u32>) -> bool
         ensures { result ≡ reaches (seen_by self.now) target }
     {
-        match target {
-            None => true,
-            Some(label) => match self.first.get(&label) {
-                None => false,
-                Some(first) => first.place < self.instructions,
-            },
-        }
+        let Some(label) = target else { return true };
+        let first = self.first.get(&label);
+        first.is_some_and(|first| first.place < self.instructions)
     }
 
     /// Turns the jumps to labels into jumps to instructions.
@@ -138,25 +119,18 @@ impl Labels {
         ensures { instructions.new ≡ map (going_to (named (seen_by self.now))) instructions.old }
     {
         for instr in instructions.iter_mut() {
-            *instr = self.resolve(*instr);
+            self.resolve(instr);
         }
     }
 
-    fn resolve(&self, instr: Instr) -> Instr
-        ensures { result ≡ going_to (named (seen_by self.now)) instr }
+    fn resolve(&self, instr: &mut Instr)
+        ensures { instr.new ≡ going_to (named (seen_by self.now)) instr.old }
     {
         match instr {
-            Instr::Jump { target } => Instr::Jump {
-                target: self.named(target),
-            },
-            Instr::JumpIfFalse { target } => Instr::JumpIfFalse {
-                target: self.named(target),
-            },
-            Instr::CallProcedure { length, target } => Instr::CallProcedure {
-                length,
-                target: self.named(target),
-            },
-            other => other,
+            Instr::Jump { target } => *target = self.named(*target),
+            Instr::JumpIfFalse { target } => *target = self.named(*target),
+            Instr::CallProcedure { target, .. } => *target = self.named(*target),
+            _ => {}
         }
     }
 
@@ -175,8 +149,5 @@ impl Labels {
 fn is_below(bound: u32, named: Option<u32>) -> bool
     ensures { result ≡ is_below bound named }
 {
-    match named {
-        None => true,
-        Some(id) => id < bound,
-    }
+    named.is_none_or(|id| id < bound)
 }

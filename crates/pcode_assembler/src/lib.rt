@@ -10,8 +10,16 @@ pub mod instr;
 mod labels;
 mod lines;
 mod operands;
+pub mod set_members;
 mod table;
 mod words;
 pub mod writer;
 
+pub(crate) use above::Above;
 pub use assembler::assemble;
+pub use code::{Code, Point, Site};
+pub use fault::{AsmFault, AsmRule};
+pub use instr::Instr;
+pub(crate) use lines::{check_end, next_above_last};
+pub use set_members::{EMPTY, SetMembers};
+pub(crate) use table::{FRAME_LIMIT, ID_LIMIT, LENGTH_LIMIT, LEVEL_LIMIT, OFFSET_LIMIT, Shape};

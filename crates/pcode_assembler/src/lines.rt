@@ -2,7 +2,7 @@ ghost use Rattle.std.specs.Prelude.{◌≡◌, [], ◌∷◌, ◌<◌, MatchOpti
 ghost use Rattle.std.specs.Result.{result_err};
 ghost use Rattle.pcode_assembler.specs.Text.{body, end_fault};
 
-use crate::fault::{AsmFault, AsmRule};
+use crate::{AsmFault, AsmRule};
 use text_lines::lines::next_line;
 
 /// Refuses a text whose last line isn't `end` with its line end.

@@ -3,11 +3,9 @@ ghost use Rattle.std.specs.Prelude.{◌≡◌};
 ghost use Rattle.pcode_assembler.specs.Table as spec;
 ghost use Rattle.pcode_assembler.specs.Writable.{check_site, jump_target, read_point};
 
-use crate::instr::Instr;
-use crate::table::{
-    FRAME_LIMIT, ID_LIMIT, LENGTH_LIMIT, LEVEL_LIMIT, OFFSET_LIMIT, RESULT_LIMIT, Shape,
-};
+use crate::table::RESULT_LIMIT;
 use crate::words::{members, number, small};
+use crate::{FRAME_LIMIT, ID_LIMIT, Instr, LENGTH_LIMIT, LEVEL_LIMIT, OFFSET_LIMIT, Shape};
 use text_lines::numerals::natural;
 use text_lines::words::parted;
 
@@ -20,24 +18,15 @@ impl Instr {
             Instr::LoadConstant { .. } => Shape::Number,
             Instr::LoadSet { .. } => Shape::Members,
             Instr::LoadAddress { .. } | Instr::Load { .. } | Instr::Store { .. } => Shape::Cell,
-            Instr::LoadIndirect { .. } | Instr::Increase { .. } => Shape::Natural {
-                limit: OFFSET_LIMIT,
-            },
+            Instr::LoadIndirect { .. } | Instr::Increase { .. } => Shape::Natural(OFFSET_LIMIT),
             Instr::LoadMany { .. }
             | Instr::StoreMany { .. }
             | Instr::Compare { .. }
-            | Instr::WriteString { .. } => Shape::Natural {
-                limit: LENGTH_LIMIT,
-            },
+            | Instr::WriteString { .. } => Shape::Natural(LENGTH_LIMIT),
             Instr::IndexAddress { .. } => Shape::Element,
-            Instr::MarkStack { .. } => Shape::Small { limit: LEVEL_LIMIT },
-            Instr::Return { .. } => Shape::Small {
-                limit: RESULT_LIMIT,
-            },
-            Instr::Enter { .. } => Shape::Pair {
-                first: FRAME_LIMIT,
-                second: FRAME_LIMIT,
-            },
+            Instr::MarkStack { .. } => Shape::Small(LEVEL_LIMIT),
+            Instr::Return { .. } => Shape::Small(RESULT_LIMIT),
+            Instr::Enter { .. } => Shape::Pair(FRAME_LIMIT, FRAME_LIMIT),
             _ => self.naming_shape(),
         }
     }
@@ -59,15 +48,9 @@ impl Instr {
             | Instr::CheckProduct { .. }
             | Instr::CheckSquare { .. }
             | Instr::CheckMembers { .. }
-            | Instr::Fail { .. } => Shape::Natural { limit: ID_LIMIT },
-            Instr::CallProcedure { .. } => Shape::Pair {
-                first: LENGTH_LIMIT,
-                second: ID_LIMIT,
-            },
-            Instr::CheckDefined { .. } => Shape::Pair {
-                first: ID_LIMIT,
-                second: LENGTH_LIMIT,
-            },
+            | Instr::Fail { .. } => Shape::Natural(ID_LIMIT),
+            Instr::CallProcedure { .. } => Shape::Pair(LENGTH_LIMIT, ID_LIMIT),
+            Instr::CheckDefined { .. } => Shape::Pair(ID_LIMIT, LENGTH_LIMIT),
             Instr::CheckInput { .. } | Instr::CheckRange { .. } | Instr::CheckSet { .. } => {
                 Shape::Range
             }
@@ -102,7 +85,7 @@ impl Instr {
     }
 
     /// The site of a check.
-    pub(crate) fn check_site(&self) -> Option<u32>
+    pub fn check_site(&self) -> Option<u32>
         ensures { result ≡ check_site self.now }
     {
         match self {
@@ -128,19 +111,12 @@ impl Instr {
             Shape::Nothing => None,
             Shape::Number => number(words).map(|value| Instr::LoadConstant { value }),
             Shape::Members => members(words).map(|members| Instr::LoadSet { members }),
-            Shape::Natural { limit } => natural(limit, words).map(|n| self.with_natural(n)),
-            Shape::Small { limit } => small(limit, words).map(|n| self.with_small(n)),
-            Shape::Cell => cell(words).map(|operands| self.with_cell(operands.0, operands.1)),
-            Shape::Pair { first, second } => {
-                pair(first, second, words).map(|operands| self.with_pair(operands.0, operands.1))
-            }
-            Shape::Element => element(words).map(|operands| Instr::IndexAddress {
-                low: operands.0,
-                size: operands.1,
-            }),
-            Shape::Range => {
-                range(words).map(|operands| self.with_range(operands.0, operands.1.0, operands.1.1))
-            }
+            Shape::Natural(limit) => natural(limit, words).map(|n| self.with_natural(n)),
+            Shape::Small(limit) => small(limit, words).map(|n| self.with_small(n)),
+            Shape::Cell => cell(words).map(|(level, offset)| self.with_cell(level, offset)),
+            Shape::Pair(a, b) => pair(a, b, words).map(|(a, b)| self.with_pair(a, b)),
+            Shape::Element => element(words).map(|(low, size)| Instr::IndexAddress { low, size }),
+            Shape::Range => range(words).map(|(id, (low, high))| self.with_range(id, low, high)),
         }
     }
 
@@ -192,22 +168,19 @@ impl Instr {
         }
     }
 
-    fn with_pair(self, first: u32, second: u32) -> Instr
-        ensures { result ≡ spec.with_pair self first second }
+    fn with_pair(self, a: u32, b: u32) -> Instr
+        ensures { result ≡ spec.with_pair self a b }
     {
         match self {
             Instr::CallProcedure { .. } => Instr::CallProcedure {
-                length: first,
-                target: second,
+                length: a,
+                target: b,
             },
             Instr::Enter { .. } => Instr::Enter {
-                variables: first,
-                evaluation: second,
+                variables: a,
+                evaluation: b,
             },
-            Instr::CheckDefined { .. } => Instr::CheckDefined {
-                site: first,
-                length: second,
-            },
+            Instr::CheckDefined { .. } => Instr::CheckDefined { site: a, length: b },
             other => other,
         }
     }
@@ -215,22 +188,11 @@ impl Instr {
     fn with_range(self, id: u32, low: i32, high: i32) -> Instr
         ensures { result ≡ spec.with_range self id low high }
     {
+        let (point, site) = (id, id);
         match self {
-            Instr::CheckInput { .. } => Instr::CheckInput {
-                point: id,
-                low,
-                high,
-            },
-            Instr::CheckRange { .. } => Instr::CheckRange {
-                site: id,
-                low,
-                high,
-            },
-            Instr::CheckSet { .. } => Instr::CheckSet {
-                site: id,
-                low,
-                high,
-            },
+            Instr::CheckInput { .. } => Instr::CheckInput { point, low, high },
+            Instr::CheckRange { .. } => Instr::CheckRange { site, low, high },
+            Instr::CheckSet { .. } => Instr::CheckSet { site, low, high },
             other => other,
         }
     }

@@ -3,7 +3,7 @@ ghost use Rattle.std.specs.Prelude.{◌≡◌, find};
 ghost use Rattle.std.specs.Str.{bytes_eq};
 ghost use Rattle.pcode_assembler.specs.Table as spec;
 
-use crate::instr::Instr;
+use crate::{EMPTY, Instr};
 
 /// The form of an instruction's operands, with the limits of its natural numbers.
 #[derive(Clone, Copy)]
@@ -13,13 +13,14 @@ pub(crate) enum Shape {
     Number,
     /// A set.
     Members,
-    Natural { limit: u32 },
+    /// A natural number up to a limit.
+    Natural(u32),
     /// A number in a byte.
-    Small { limit: u8 },
+    Small(u8),
     /// A level and an offset.
     Cell,
     /// Two natural numbers.
-    Pair { first: u32, second: u32 },
+    Pair(u32, u32),
     /// A number of 32 bits and a length.
     Element,
     /// An id and two numbers of 32 bits.
@@ -42,7 +43,7 @@ pub(crate) const ID_LIMIT: u32 = 999_999;
 /// An instruction of each word, whatever its operands.
 const TEMPLATES: [Instr; 68] = [
     Instr::LoadConstant { value: 0 },
-    Instr::LoadSet { members: 0 },
+    Instr::LoadSet { members: EMPTY },
     Instr::LoadAddress {
         level: 0,
         offset: 0,

@@ -4,6 +4,7 @@ ghost use Rattle.text_lines.specs.Numerals.{natural};
 ghost use Rattle.pcode_assembler.specs.Words as spec;
 ghost use Rattle.pcode_assembler.specs.Words.{is_hexadecimal, nibble_of};
 
+use crate::SetMembers;
 use text_lines::numerals::natural;
 
 /// The greatest number of 32 bits, and the magnitude of the least.
@@ -29,10 +30,7 @@ pub(crate) fn positive(limit: u32, word: &[u8]) -> Option<u32>
 pub(crate) fn small(limit: u8, word: &[u8]) -> Option<u8>
     ensures { result ≡ natural limit word.now }
 {
-    match natural(u32::from(limit), word) {
-        None => None,
-        Some(number) => Some(number as u8),
-    }
+    Some(natural(u32::from(limit), word)? as u8)
 }
 
 /// A number of 32 bits, with a minus if it is negative.
@@ -49,10 +47,7 @@ pub(crate) fn number(word: &[u8]) -> Option<i32>
 fn magnitude(digits: &[u8]) -> Option<i32>
     ensures { result ≡ spec.magnitude digits.now }
 {
-    match natural(MAXIMUM, digits) {
-        None => None,
-        Some(number) => Some(number as i32),
-    }
+    Some(natural(MAXIMUM, digits)? as i32)
 }
 
 /// The negative of digits, which 0 hasn't.
@@ -66,13 +61,13 @@ fn negated(digits: &[u8]) -> Option<i32>
 }
 
 /// The members of a set that hexadecimal digits spell, the first for members 127 to 124.
-pub(crate) fn members(word: &[u8]) -> Option<u128>
+pub(crate) fn members(word: &[u8]) -> Option<SetMembers>
     ensures { result ≡ spec.members word.now }
 {
     if word.len() != SET_DIGITS || !are_hexadecimal(word) {
         return None;
     }
-    Some(hexadecimal_value(word))
+    Some(SetMembers::of(hexadecimal_value(word)))
 }
 
 fn are_hexadecimal(word: &[u8]) -> bool

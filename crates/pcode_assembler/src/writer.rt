@@ -12,8 +12,7 @@ ghost use Rattle.pcode_assembler.specs.Words.{hexadecimal_digit, hexadecimal_dig
 ghost use Rattle.pcode_assembler.specs.Writing.{AppendsLines, Marks, have_numbers, instruction_line, label_if};
 ghost use Rattle.pcode_assembler.specs.Writing.{natural_words, placed, single_words};
 
-use crate::code::{Code, Point, Site};
-use crate::instr::Instr;
+use crate::{Code, Instr, Point, Site};
 use std::alloc::{AllocError, Global};
 use text_lines::writer::Writer;
 
@@ -66,8 +65,7 @@ fn put_sites(writer: &mut Writer, sites: &[Site])
 {
     for site in sites {
         writer.append(b"site");
-        put_natural(writer, site.line);
-        put_natural(writer, site.column);
+        put_pair(writer, site.line, site.column);
         put_natural(writer, u32::from(site.kind));
         writer.append(b"\n");
     }
@@ -78,8 +76,7 @@ fn put_points(writer: &mut Writer, points: &[Point])
 {
     for point in points {
         writer.append(b"point");
-        put_natural(writer, point.line);
-        put_natural(writer, point.column);
+        put_pair(writer, point.line, point.column);
         writer.append(b"\n");
     }
 }
@@ -121,26 +118,15 @@ fn put_operands(writer: &mut Writer, instr: &Instr)
 {
     match instr {
         Instr::LoadConstant { value } => put_number(writer, *value),
-        Instr::LoadSet { members } => put_members(writer, *members),
+        Instr::LoadSet { members } => put_members(writer, members.number()),
         Instr::IndexAddress { low, size } => {
             put_number(writer, *low);
             put_natural(writer, *size);
         }
-        Instr::CheckInput {
-            point: id,
-            low,
-            high,
+        Instr::CheckInput { point, low, high } => put_range(writer, *point, *low, *high),
+        Instr::CheckRange { site, low, high } | Instr::CheckSet { site, low, high } => {
+            put_range(writer, *site, *low, *high);
         }
-        | Instr::CheckRange {
-            site: id,
-            low,
-            high,
-        }
-        | Instr::CheckSet {
-            site: id,
-            low,
-            high,
-        } => put_range(writer, *id, *low, *high),
         _ => put_naturals(writer, instr),
     }
 }
@@ -152,25 +138,16 @@ fn put_naturals(writer: &mut Writer, instr: &Instr)
     match instr {
         Instr::LoadAddress { level, offset }
         | Instr::Load { level, offset }
-        | Instr::Store { level, offset } => {
-            put_natural(writer, u32::from(*level));
-            put_natural(writer, *offset);
-        }
+        | Instr::Store { level, offset } => put_pair(writer, u32::from(*level), *offset),
         Instr::MarkStack { level: n } | Instr::Return { results: n } => {
             put_natural(writer, u32::from(*n));
         }
-        Instr::CallProcedure {
-            length: a,
-            target: b,
-        }
-        | Instr::Enter {
-            variables: a,
-            evaluation: b,
-        }
-        | Instr::CheckDefined { site: a, length: b } => {
-            put_natural(writer, *a);
-            put_natural(writer, *b);
-        }
+        Instr::CallProcedure { length, target } => put_pair(writer, *length, *target),
+        Instr::Enter {
+            variables,
+            evaluation,
+        } => put_pair(writer, *variables, *evaluation),
+        Instr::CheckDefined { site, length } => put_pair(writer, *site, *length),
         _ => put_single(writer, instr),
     }
 }
@@ -212,6 +189,13 @@ fn put_range(writer: &mut Writer, id: u32, low: i32, high: i32)
     put_natural(writer, id);
     put_number(writer, low);
     put_number(writer, high);
+}
+
+fn put_pair(writer: &mut Writer, first: u32, second: u32)
+    ensures { Appends (words_behind (decimal first ∷ decimal second ∷ [])) writer.old writer.new }
+{
+    put_natural(writer, first);
+    put_natural(writer, second);
 }
 
 fn put_natural(writer: &mut Writer, n: u32)

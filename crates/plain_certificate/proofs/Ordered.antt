@@ -14,7 +14,7 @@ use Rattle.domain.specs.declared.versions.Version.{Version}
 use Rattle.certificate.specs.declared.AliasPair.{AliasPair}
 use Rattle.certificate.specs.Contents.{LoopClaims, Section, are_claims, are_in_order, are_listed, claim_order, claims_of_block, comes_behind, is_empty}
 use Rattle.certificate.specs.Contents.{is_loop, is_right, is_section, is_small, pair_order}
-use Rattle.certificate.specs.Lines.{Alias, Change, Claim}
+use Rattle.certificate.specs.Lines.{Alias, Change, ClaimLine}
 use Rattle.typed_tree.specs.declared.tree.Tree.{Tree}
 use Rattle.typed_tree.specs.WellFormed.{is_visible, outline_of}
 use Rattle.checker_calls.specs.Names.{is_outward, is_variable_parameter, stands_in}
@@ -82,7 +82,7 @@ claims-listed : (version : Version) (pairs : List AliasPair) (roots : List ℕ)
     → ascends is_small None roots ≡ true → are_claims version false (map Alias pairs ++ (map Change roots ++ [])) ≡ true
 claims-listed version pairs roots listed ascend =
     let changes = changes-listed version false roots ascend in
-    ap (λ (more : List Claim). are_claims version false (map Alias pairs ++ more)) (append-nil (map Change roots))
+    ap (λ (more : List ClaimLine). are_claims version false (map Alias pairs ++ more)) (append-nil (map Change roots))
     ∙ joined claim_order (λ claim. claim) (is_right version false) Alias (map Change roots)
     (λ one. begun claim_order (λ claim. claim) (is_right version false) Change (Some (Alias one)) (λ root. refl) roots changes) None changes pairs
     (made claim_order (λ claim. claim) (is_right version false) Alias None pairs ∙ listed)

@@ -14,11 +14,11 @@ mod roots;
 mod sections;
 
 use certificate::Certificate;
-use domain::versions::Version;
+use domain::Version;
 use roots::has_numbers;
 use sections::sections;
 use std::alloc::{AllocError, Global};
-use typed_tree::tree::Tree;
+use typed_tree::Tree;
 
 /// The widest certificate of a program, which the checker accepts (see `cert_checker::laws::plain_is_accepted`).
 /// Sections, and in each of them pairs, changes and loops, are in ascending order; what lists nothing is left out. So

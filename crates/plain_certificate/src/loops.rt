@@ -8,7 +8,7 @@ ghost use Rattle.std.specs.Prelude.{slice_get};
 use crate::roots::{count, visible_roots};
 use certificate::LoopClaims;
 use std::alloc::{AllocError, Global};
-use typed_tree::tree::Tree;
+use typed_tree::Tree;
 
 /// The claims on the loops of a block, by their numbers.
 pub(crate) fn block_loops(

@@ -4,9 +4,9 @@ ghost use Rattle.plain_certificate.specs.Widest.{HasNumbers, block_pairs, pairs_
 
 use crate::roots::{paired_roots, parameters_of};
 use certificate::AliasPair;
-use checker_calls::visible::is_variable_parameter;
+use checker_calls::is_variable_parameter;
 use std::alloc::{AllocError, Global};
-use typed_tree::tree::Tree;
+use typed_tree::Tree;
 
 /// The pairs of a block, in ascending order.
 pub(crate) fn block_pairs(

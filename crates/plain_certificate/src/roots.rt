@@ -3,11 +3,9 @@ ghost use Rattle.std.specs.Prelude.{◌≡◌, ◌↔◌, IfOk, IsTrue};
 ghost use Rattle.plain_certificate.specs.Widest.{outward_roots, paired_roots, parameters_of, visible_roots};
 ghost use Rattle.plain_certificate.specs.Widest.{HasNumbers, HasNumbersFor, may_pair};
 
-use checker_calls::visible::{
-    is_outward, is_result, is_value_parameter, is_variable_parameter, is_visible,
-};
+use checker_calls::{is_outward, is_result, is_value_parameter, is_variable_parameter, is_visible};
 use std::alloc::{AllocError, Global};
-use typed_tree::tree::Tree;
+use typed_tree::Tree;
 
 /// How many numbers a certificate has for variables, loops and blocks: those up to 999,999.
 const NUMBERS: usize = 1_000_000;

@@ -8,7 +8,7 @@ use crate::pairs::block_pairs;
 use crate::roots::{count, outward_roots};
 use certificate::Section;
 use std::alloc::{AllocError, Global};
-use typed_tree::tree::Tree;
+use typed_tree::Tree;
 
 /// The sections of all blocks, without those that list nothing.
 pub(crate) fn sections(alloc: Global, tree: &Tree) -> Result<Vec<Section>, AllocError>

@@ -24,7 +24,7 @@ use Rattle.reading.specs.Declarations as read
 use Rattle.reading.specs.Declarations.{name_of, lone_name, denoter_by, begins_routine, finish}
 use Rattle.reading.proofs.Makes.{Makes, thence, gives, deep_makes, refused, weaker, taken_makes, token_makes, expect_makes, name_makes}
 use Rattle.reading.proofs.Makes.{same_kind_true}
-use Rattle.reading.proofs.Makes.{Takes, if_some, Spelled, spelled_by}
+use Rattle.reading.proofs.Makes.{ReadingTakes, if_some, Spelled, spelled_by}
 use Rattle.reading.proofs.Tests.{and_left, and_right, same_letters}
 use Rattle.reading.proofs.Good.{Good, ◌⊕◌, none_good, kept_good, mark_good, word_good, form_good, nested_good, if_good, IsListed, unplaced}
 use Rattle.reading.proofs.Good.{looks_here, looks_ahead, either_here, either_kind, if_makes, listed_makes, many_makes, parenthesized_good}
@@ -108,7 +108,7 @@ optional_word : (w : Word) (of : Bool → Outline) (limit : ℕ) → (of false �
     → (tokens : List Token) → Makes (word_taken w >>= (λ place. pure (is_some place))) tokens (λ b others. Good limit tokens (of b) others)
 optional_word w of limit none some tokens = thence (taken_makes (kind.Word w) tokens) λ found a q. by found a q
   where
-    by : (found : Option Place) (a : List Token) → Takes (kind.Word w) tokens found a
+    by : (found : Option Place) (a : List Token) → ReadingTakes (kind.Word w) tokens found a
         → Makes (pure (is_some found)) a (λ b others. Good limit tokens (of b) others)
     by (Some place) a r = gives (subst (λ o. Good limit tokens o a) (sym some) (kept_good (of_kind (kind.Word w)) (unplaced (kind.Word w) place tokens a r)))
     by None a q = gives (subst (λ o. Good limit tokens o a) (sym none) (subst (λ t. Good limit tokens nothing t) q.0 none_good))

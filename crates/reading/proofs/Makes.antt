@@ -125,9 +125,9 @@ pub if_none : {A : Type 0} (b : Bool) (a : A) → (if b then Some a else None) �
 if_none true a h = absurd cc
 if_none false a h = refl
 
-abbrev pub Takes : Kind → List Token → Option Place → List Token → Type 0
-Takes k tokens (Some place) others = Reads tokens (of_kind_at k place ∷ []) others
-Takes k tokens None others = (tokens ≡ others) × ¬ (next_kind others ≡ Some k)
+abbrev pub ReadingTakes : Kind → List Token → Option Place → List Token → Type 0
+ReadingTakes k tokens (Some place) others = Reads tokens (of_kind_at k place ∷ []) others
+ReadingTakes k tokens None others = (tokens ≡ others) × ¬ (next_kind others ≡ Some k)
 
 missed : (k : Kind) (others : List Token) → Misses (λ token. if same_kind token.kind k then Some token.place else None) others
     → ¬ (next_kind others ≡ Some k)
@@ -139,14 +139,14 @@ missed k (token ∷ others) m h =
     let clash : true ≡ false = sym yes ∙ no in cc
 
 takes : (k : Kind) (tokens : List Token) (found : Option Place) (others : List Token)
-    → Took (λ token. if same_kind token.kind k then Some token.place else None) tokens found others → Takes k tokens found others
+    → Took (λ token. if same_kind token.kind k then Some token.place else None) tokens found others → ReadingTakes k tokens found others
 takes k tokens (Some place) others (token, e, test) =
     let is = if_some (same_kind token.kind k) token.place place test in
     subst (λ p. Reads tokens (of_kind_at k p ∷ []) others) is.1
     (one_read (of_kind_at k token.place) token tokens others e (placed k token (same_kind_true token.kind k is.0)))
 takes k tokens None others (e, m) = (e, missed k others m)
 
-pub taken_makes : (k : Kind) (tokens : List Token) → Makes (taken k) tokens (Takes k tokens)
+pub taken_makes : (k : Kind) (tokens : List Token) → Makes (taken k) tokens (ReadingTakes k tokens)
 unfolding taken
 taken_makes k tokens = weaker (takes k tokens) (token_makes (λ token. if same_kind token.kind k then Some token.place else None) tokens)
 

@@ -16,7 +16,7 @@ use Rattle.reading.specs.Reading.{text_taken, number_in, number_taken, sign_in, 
 use Rattle.reading.specs.Reading.{operator_taken, relational_in, relational_taken}
 use Rattle.reading.specs.Reading.{is_forward, forward_taken, on, choose, or_refuse, expect, expect_name, led_turn, separated, next_turn, many}
 use Rattle.reading.specs.Reading.{Turn, more, ends, turned, loop_from, loop}
-use Rattle.reading.proofs.Makes.{Makes, split, Takes, taken_makes, expect_makes, token_makes, Took}
+use Rattle.reading.proofs.Makes.{Makes, split, ReadingTakes, taken_makes, expect_makes, token_makes, Took}
 
 -- ---- what was read stands before what is left
 
@@ -266,7 +266,7 @@ on_opening {B} {n} {some} {none} k one f g = record {
     chosen_leaves (Some place) mid b rest e = (f place).leaves mid b rest e
     chosen_leaves None mid b rest e = g.leaves mid b rest e
 
-    chosen_deep : (tokens : List Token) (found : Option Place) (mid : List Token) → Takes k tokens found mid → (at : Option Place) (left : List Token)
+    chosen_deep : (tokens : List Token) (found : Option Place) (mid : List Token) → ReadingTakes k tokens found mid → (at : Option Place) (left : List Token)
         → choose found some none mid ≡ Err (TooDeep at, left) → OpensUpTo (suc n) at tokens
     chosen_deep tokens (Some place) mid r at left e =
         let h = front_of (of_kind_at k place ∷ []) tokens mid r in up_to_behind h (omega arith) ((f place).deep mid at left e)

@@ -8,7 +8,7 @@ use Rattle.stack_machine.specs.Does.{cell_count}
 use Rattle.outside.specs.Acts.{Act, Follow, Told, WroteFile}
 use Rattle.report_text.specs.Text.{stop_status}
 use Rattle.pcode_assembler.specs.declared.code.Code.{Code}
-use Rattle.report.specs.Courses.{Course, Goes, HasWritten, ends_with, file_status, run_status, runs, stops, unwritable_line, writes_if}
+use Rattle.report.specs.Courses.{Course, CourseGoes, HasWritten, ends_with, file_status, run_status, runs, stops, unwritable_line, writes_if}
 use Rattle.report.specs.Pcom.{runs_if}
 use Rattle.report.specs.declared.ready.Ready.{Ready}
 use Rattle.report.specs.Prepared.{IsReadyIf, IsThereFor}
@@ -22,19 +22,19 @@ follow-then (Some xs) (Some ys) (Some zs) one more first next =
     next ∙ ap (λ (l : List Act). l ++ more) first ∙ append_assoc xs one more
 
 -- behind an act a program goes on
-pub goes-on : (course next : Course) (act : Act) (a b c : Option (List Act)) (status : ℕ) → Follow a b (act ∷ []) → Goes b c status next
-    → ((rest : List Act) → next rest status → course (act ∷ rest) status) → Goes a c status course
+pub goes-on : (course next : Course) (act : Act) (a b c : Option (List Act)) (status : ℕ) → Follow a b (act ∷ []) → CourseGoes b c status next
+    → ((rest : List Act) → next rest status → course (act ∷ rest) status) → CourseGoes a c status course
 goes-on course next act a b c status first (rest, follows, goes) whole =
     (act ∷ rest, follow-then a b c (act ∷ []) rest first follows, whole rest goes)
 
 -- nothing was done, and a program ends
-pub stopped : (a : Option (List Act)) (status answer : ℕ) → answer ≡ status → Goes a a answer (stops status)
+pub stopped : (a : Option (List Act)) (status answer : ℕ) → answer ≡ status → CourseGoes a a answer (stops status)
 stopped None status answer is = ([], tt, (refl, is))
 stopped (Some xs) status answer is = ([], sym (append-nil xs), (refl, is))
 
 -- a line was told, and a program ends
 pub told : (a b : Option (List Act)) (text line : List ℕ) (is_whole : Bool) (status answer : ℕ) → Follow a b (Told text is_whole ∷ []) → text ≡ line
-    → answer ≡ status → Goes a b answer (ends_with line status)
+    → answer ≡ status → CourseGoes a b answer (ends_with line status)
 told a b text line is_whole status answer follows is same =
     (Told text is_whole ∷ [], follows, (is_whole, [], ap (λ (t : List ℕ). Told t is_whole ∷ []) is, (refl, same)))
 
@@ -45,20 +45,20 @@ run_answer report stop status answer same is = is ∙ ap (λ (s : ℕ). if s == 
 
 -- a text was written, where a file is named for it, and a program goes on
 pub written : (path : Option (List ℕ)) (wanted text : List ℕ) (a b c : Option (List Act)) (status : ℕ) (next : Course)
-    → IsThereFor path wanted text → HasWritten path text a b (Ok tt) → Goes b c status next → Goes a c status (writes_if path wanted next)
-written None wanted text a b c status next has same goes = subst (λ (o : Option (List Act)). Goes o c status next) same goes
+    → IsThereFor path wanted text → HasWritten path text a b (Ok tt) → CourseGoes b c status next → CourseGoes a c status (writes_if path wanted next)
+written None wanted text a b c status next has same goes = subst (λ (o : Option (List Act)). CourseGoes o c status next) same goes
 written (Some path) wanted text a b c status next has wrote goes =
     goes-on (writes_if (Some path) wanted next) next (WroteFile path text true) a b c status wrote goes
     (λ (rest : List Act) done. (true, rest, ap (λ (t : List ℕ). WroteFile path t true ∷ rest) has, done))
 
 -- a file didn't take a text, and a program ends
 pub unwritten : (path : Option (List ℕ)) (wanted text : List ℕ) (failed : Bor (List ℕ)) (a b c : Option (List Act)) (status : ℕ) (next : Course)
-    → IsThereFor path wanted text → HasWritten path text a b (Err failed) → Goes b c status (ends_with (unwritable_line failed.now) file_status)
-    → Goes a c status (writes_if path wanted next)
+    → IsThereFor path wanted text → HasWritten path text a b (Err failed) → CourseGoes b c status (ends_with (unwritable_line failed.now) file_status)
+    → CourseGoes a c status (writes_if path wanted next)
 unwritten None wanted text failed a b c status next has wrote goes = absurd wrote
 unwritten (Some path) wanted text failed a b c status next has wrote goes =
     goes-on (writes_if (Some path) wanted next) (ends_with (unwritable_line path) file_status) (WroteFile path text false) a b c status wrote.1
-    (subst (λ (p : List ℕ). Goes b c status (ends_with (unwritable_line p) file_status)) wrote.0 goes)
+    (subst (λ (p : List ℕ). CourseGoes b c status (ends_with (unwritable_line p) file_status)) wrote.0 goes)
     (λ (rest : List Act) done. (false, rest, ap (λ (t : List ℕ). WroteFile path t false ∷ rest) has, done))
 
 -- where a machine is ready, the words say that the code is run on it

@@ -11,7 +11,7 @@ use Rattle.lexer.specs.declared.token.Token.{Token}
 use Rattle.lexer.specs.declared.piece.Piece.{Piece}
 use Rattle.lexer.specs.declared.piece.Piece.TheVariants as piece
 use Rattle.lexer.specs.Piece.{piece_at}
-use Rattle.lexer.specs.Tokens.{IsTokenList, Leaves, Lexeme, lexeme_of, lexemes, lexemes_of}
+use Rattle.lexer.specs.Tokens.{IsTokenList, TokensLeave, Lexeme, lexeme_of, lexemes, lexemes_of}
 use Rattle.lexer.proofs.Symbols.{nothing_at}
 use Rattle.syntax_tree.specs.declared.Program.{Program}
 use Rattle.syntax_tree.specs.Places.{program_places}
@@ -73,7 +73,7 @@ takes : (text : List ℕ) (p : Piece × ℕ) → piece_at text ≡ Ok p → 1 �
 takes [] p is = absurd (let both : Err _ ≡ Ok p = sym nothing_at ∙ is in cc)
 takes (byte ∷ text) p is = omega arith
 
-lexemes_within : (place : Place) (text : List ℕ) (pieces : List (Piece × ℕ)) → Leaves text pieces [] → 1 ≤ place.line → 1 ≤ place.column
+lexemes_within : (place : Place) (text : List ℕ) (pieces : List (Piece × ℕ)) → TokensLeave text pieces [] → 1 ≤ place.line → 1 ≤ place.column
     → place.line + length text ≤ 1048577 → place.column + length text ≤ 1048577 → Each (λ one. IsWithin one.place) (lexemes place text pieces)
 lexemes_within place text [] leaves line column lines columns = tt
 lexemes_within place text (p ∷ ps) leaves line column lines columns =

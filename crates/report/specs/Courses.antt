@@ -19,8 +19,8 @@ abbrev pub Course : Type 1
 Course = List Act → ℕ → Type 0
 
 -- behind what was done before, where that is known, a program went on like this
-abbrev pub Goes : Option (List Act) → Option (List Act) → ℕ → Course → Type 0
-Goes before after status course = (acts : List Act) × Follow before after acts × course acts status
+abbrev pub CourseGoes : Option (List Act) → Option (List Act) → ℕ → Course → Type 0
+CourseGoes before after status course = (acts : List Act) × Follow before after acts × course acts status
 
 -- ---- what is told
 

@@ -21,12 +21,12 @@ use code_generator::generate::generate;
 use code_generator::laws::stripped_follows;
 use lexer::tokens;
 use parser::parse;
-use pcode_assembler::code::{Code, Site};
+use pcode_assembler::{Code, Site};
 use report_text::fault::Fault;
 use resolver::resolve;
 use std::alloc::{AllocError, Global};
 use syntax_release::release;
-use typed_tree::tree::Tree;
+use typed_tree::Tree;
 
 /// What compiling a source gives.
 #[derive(Drop)]

@@ -1,5 +1,5 @@
 ghost use Rattle.std.specs.Prelude.{map};
-ghost use Rattle.report.specs.Courses.{Goes};
+ghost use Rattle.report.specs.Courses.{CourseGoes};
 ghost use Rattle.report.specs.Pcom.{by_source, by_words, compiles, pcom};
 ghost use Rattle.report.specs.Refusals.{given};
 
@@ -17,7 +17,7 @@ use std::alloc::Global;
 /// the source is refused no file is written, and where a file doesn't take its text nothing more is written or run.
 /// Once standard error has failed it gets nothing more; the status tells the same.
 pub fn pcom<O: Outside>(alloc: Global, words: &[&str], outside: &mut O) -> u8
-    ensures acts { Goes (O.acts outside.old) (O.acts outside.new) result (pcom (map (λ w. w.now) words.now)) }
+    ensures acts { CourseGoes (O.acts outside.old) (O.acts outside.new) result (pcom (map (λ w. w.now) words.now)) }
 {
     match pcom_words(alloc, words) {
         Ok(words) => by_words(alloc, words, outside),
@@ -26,7 +26,7 @@ pub fn pcom<O: Outside>(alloc: Global, words: &[&str], outside: &mut O) -> u8
 }
 
 fn by_words<O: Outside>(alloc: Global, words: PcomWords<'_>, outside: &mut O) -> u8
-    ensures { Goes (O.acts outside.old) (O.acts outside.new) result (by_words words.entry) }
+    ensures { CourseGoes (O.acts outside.old) (O.acts outside.new) result (by_words words.entry) }
 {
     match outside.read_file(words.source) {
         Some(source) => by_source(alloc, words, &source, outside),
@@ -35,7 +35,7 @@ fn by_words<O: Outside>(alloc: Global, words: PcomWords<'_>, outside: &mut O) ->
 }
 
 fn by_source<O: Outside>(alloc: Global, words: PcomWords<'_>, source: &[u8], outside: &mut O) -> u8
-    ensures { Goes (O.acts outside.old) (O.acts outside.new) result (by_source words.entry source.now) }
+    ensures { CourseGoes (O.acts outside.old) (O.acts outside.new) result (by_source words.entry source.now) }
 {
     let Some(path) = words.cert else {
         return by_texts(alloc, words, source, None, outside);
@@ -53,7 +53,7 @@ fn by_texts<O: Outside>(
     certificate: Option<&[u8]>,
     outside: &mut O,
 ) -> u8
-    ensures { Goes (O.acts outside.old) (O.acts outside.new) result
+    ensures { CourseGoes (O.acts outside.old) (O.acts outside.new) result
         (compiles words.entry source.now (given certificate.entry)) }
 {
     match prepare(alloc, words, source, certificate) {

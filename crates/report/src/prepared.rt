@@ -1,6 +1,6 @@
 ghost use Rattle.std.specs.Prelude.{◌≡◌, None, IfErr, IfOk, IsOk};
 ghost use Rattle.pcode_assembler.specs.Contents.{spelling};
-ghost use Rattle.report.specs.Courses.{Goes, writes_if};
+ghost use Rattle.report.specs.Courses.{CourseGoes, writes_if};
 ghost use Rattle.report.specs.Pcom.{code_of, report_status, reports, spelled, writes_code};
 ghost use Rattle.report.specs.Prepared.{IsPrepared, IsThereFor};
 ghost use Rattle.report.specs.Refusals.{IsRefusal, given};
@@ -12,10 +12,10 @@ use crate::telling::{cannot_write, run_code, write_to};
 use crate::text::lines;
 use command_line::PcomWords;
 use outside::Outside;
-use pcode_assembler::code::Code;
+use pcode_assembler::Code;
 use report_text::fault::Fault;
 use std::alloc::{AllocError, Global};
-use typed_tree::site::Site;
+use typed_tree::Site;
 
 /// How many cells a run has.
 const CELLS: u32 = 1_000_000;
@@ -114,7 +114,7 @@ impl Prepared {
         outside: &mut O,
     ) -> u8
         requires { IsPrepared words self }
-        ensures { Goes (O.acts outside.old) (O.acts outside.new) result (writes_if (given words.entry.write_cert)
+        ensures { CourseGoes (O.acts outside.old) (O.acts outside.new) result (writes_if (given words.entry.write_cert)
             (spelled self.compiled) (writes_code words.entry self.compiled)) }
     {
         match write_to(words.write_cert, &self.certificate, outside) {
@@ -126,7 +126,7 @@ impl Prepared {
     // The same behind the certificate.
     fn put_out_code<O: Outside>(self, alloc: Global, words: PcomWords<'_>, outside: &mut O) -> u8
         requires { IsPrepared words self }
-        ensures { Goes (O.acts outside.old) (O.acts outside.new) result (writes_code words.entry self.compiled) }
+        ensures { CourseGoes (O.acts outside.old) (O.acts outside.new) result (writes_code words.entry self.compiled) }
     {
         match write_to(words.code, &self.code, outside) {
             Ok(()) => self.report_to(alloc, words, outside),
@@ -137,7 +137,7 @@ impl Prepared {
     // Tells the report, and then runs the code, where all is ready for it.
     fn report_to<O: Outside>(self, alloc: Global, words: PcomWords<'_>, outside: &mut O) -> u8
         requires { IsPrepared words self }
-        ensures { Goes (O.acts outside.old) (O.acts outside.new) result (reports words.entry self.compiled) }
+        ensures { CourseGoes (O.acts outside.old) (O.acts outside.new) result (reports words.entry self.compiled) }
     {
         let Prepared {
             compiled,

@@ -1,10 +1,10 @@
 ghost use Rattle.std.specs.Prelude.{◌≤◌, IfOk};
 ghost use Rattle.report.specs.Ready.{IsReady};
 
-use pcode_assembler::code::Code;
-use prepared_steps::steps::Prepared as Steps;
+use pcode_assembler::Code;
+use prepared_steps::Prepared as Steps;
 use preparer::prepare::prepare;
-use stack_machine::machine::Machine;
+use stack_machine::Machine;
 use std::alloc::{AllocError, Global};
 
 /// All that takes memory for a run of a code: a machine, and the steps that are prepared for it.

@@ -7,8 +7,8 @@ use crate::compile::compile;
 use crate::ready::Ready;
 use cert_checker::Verdict;
 use report_text::fault::Fault;
+use stack_machine::Stop;
 use stack_machine::bytes::{Feed, Sink};
-use stack_machine::stop::Stop;
 use std::alloc::Global;
 
 /// Compiles a source, with the text of a certificate or with one that is found, and runs the code without the checks of

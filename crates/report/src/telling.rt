@@ -1,5 +1,5 @@
 ghost use Rattle.std.specs.Prelude.{◌≡◌, ◌==◌, if◌then◌else◌};
-ghost use Rattle.report.specs.Courses.{Goes, HasWritten, ends_with, file_status, run_status, runs, tells_stop};
+ghost use Rattle.report.specs.Courses.{CourseGoes, HasWritten, ends_with, file_status, run_status, runs, tells_stop};
 ghost use Rattle.report.specs.Courses.{unreadable_line, untaken, unwritable_line};
 ghost use Rattle.report.specs.Refusals.{given};
 ghost use Rattle.report_text.specs.Text.{refusal_line, refusal_of, refusal_status};
@@ -10,9 +10,9 @@ use crate::ready::Ready;
 use crate::text::{fault_text, stop_text};
 use command_line::WordsFault;
 use outside::Outside;
-use pcode_assembler::code::Code;
+use pcode_assembler::Code;
 use report_text::fault::Fault;
-use stack_machine::stop::Stop;
+use stack_machine::Stop;
 use std::alloc::Global;
 
 /// The status where words aren't taken, and where a file can't be read or written.
@@ -20,7 +20,7 @@ const TROUBLE: u8 = 3;
 
 /// Answers words that aren't taken, or that want the help or the version, and gives the status.
 pub fn untaken<O: Outside>(alloc: Global, fault: WordsFault, outside: &mut O) -> u8
-    ensures { Goes (O.acts outside.old) (O.acts outside.new) result (untaken fault) }
+    ensures { CourseGoes (O.acts outside.old) (O.acts outside.new) result (untaken fault) }
 {
     match fault {
         WordsFault::Memory(refused) => refuse(alloc, &Fault::Memory(refused), outside),
@@ -30,7 +30,8 @@ pub fn untaken<O: Outside>(alloc: Global, fault: WordsFault, outside: &mut O) ->
 
 /// Tells that the file of a path can't be read, and gives the status.
 pub(crate) fn cannot_read<O: Outside>(path: &str, outside: &mut O) -> u8
-    ensures { Goes (O.acts outside.old) (O.acts outside.new) result (ends_with (unreadable_line path.now) file_status) }
+    ensures { CourseGoes (O.acts outside.old) (O.acts outside.new) result
+        (ends_with (unreadable_line path.now) file_status) }
 {
     outside.tell(&["cannot read ".as_bytes(), path.as_bytes(), "\n".as_bytes()]);
     TROUBLE
@@ -38,7 +39,8 @@ pub(crate) fn cannot_read<O: Outside>(path: &str, outside: &mut O) -> u8
 
 /// Tells that the file of a path can't be written, and gives the status.
 pub(crate) fn cannot_write<O: Outside>(path: &str, outside: &mut O) -> u8
-    ensures { Goes (O.acts outside.old) (O.acts outside.new) result (ends_with (unwritable_line path.now) file_status) }
+    ensures { CourseGoes (O.acts outside.old) (O.acts outside.new) result
+        (ends_with (unwritable_line path.now) file_status) }
 {
     outside.tell(&["cannot write ".as_bytes(), path.as_bytes(), "\n".as_bytes()]);
     TROUBLE
@@ -46,7 +48,7 @@ pub(crate) fn cannot_write<O: Outside>(path: &str, outside: &mut O) -> u8
 
 /// Tells why something is refused, and gives the status.
 pub(crate) fn refuse<O: Outside>(alloc: Global, fault: &Fault, outside: &mut O) -> u8
-    ensures { Goes (O.acts outside.old) (O.acts outside.new) result
+    ensures { CourseGoes (O.acts outside.old) (O.acts outside.new) result
         (ends_with (refusal_line (refusal_of fault.now)) (refusal_status (refusal_of fault.now))) }
 {
     let (line, status) = fault_text(alloc, fault);
@@ -86,7 +88,7 @@ pub(crate) fn run_code<O: Outside>(
     outside: &mut O,
 ) -> u8
     requires { Stands code.now.instructions.items ready.old.steps }
-    ensures { Goes (O.acts outside.old) (O.acts outside.new) result
+    ensures { CourseGoes (O.acts outside.old) (O.acts outside.new) result
         (runs code.now (cell_count ready.old.machine) told report) }
 {
     let stop = outside.run(&mut ready.machine, code, &ready.steps, u64::MAX);
@@ -95,7 +97,7 @@ pub(crate) fn run_code<O: Outside>(
 
 /// Tells how a run stopped, where all that was told before was taken, and gives the status.
 fn tell_stop<O: Outside>(alloc: Global, stop: &Stop, told: bool, report: u8, outside: &mut O) -> u8
-    ensures { Goes (O.acts outside.old) (O.acts outside.new) result
+    ensures { CourseGoes (O.acts outside.old) (O.acts outside.new) result
         (tells_stop told stop.now (run_status report stop.now)) }
 {
     let (line, status) = stop_text(alloc, stop);

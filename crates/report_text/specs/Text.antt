@@ -89,14 +89,14 @@ at_line_or_memory None number = Memory
 at_line_or_memory (Some line) number = Certificate line (record { letter = letter_f; number = number })
 
 abbrev pub certificate_refusal : ReadFault → Refusal
-certificate_refusal fault = at_line_or_memory (line_of fault) (read.number_of fault)
+certificate_refusal fault = at_line_or_memory (line_of fault) (read.code_of fault)
 
 abbrev pub checker_refusal : CheckFault → Refusal
 checker_refusal (check.Memory _) = Memory
 checker_refusal check.TooLarge = Whole (record { letter = letter_k; number = 10 })
 checker_refusal check.Foreign = Claims (record { letter = letter_c; number = 1 })
 checker_refusal (check.Broken broken place) =
-    Claim place (record { letter = letter_c; number = rule.number_of broken })
+    Claim place (record { letter = letter_c; number = rule.code_of broken })
 
 abbrev pub generator_refusal : GenFault → Refusal
 generator_refusal (generate.Memory _) = Memory
@@ -106,13 +106,13 @@ generator_refusal generate.TooLarge = Whole (record { letter = letter_g; number 
 abbrev pub assembler_refusal : AsmFault → Refusal
 assembler_refusal (assemble.Memory _) = Memory
 assembler_refusal (assemble.Refused rule line) =
-    Code line (record { letter = letter_a; number = asm.number_of rule })
+    Code line (record { letter = letter_a; number = asm.code_of rule })
 
 -- what a fault says
 abbrev pub refusal_of : Fault → Refusal
 refusal_of (fault.Memory _) = Memory
-refusal_of (fault.Lex f) = at_or_memory (lex.place_of_fault f) letter_l (lex.number_of f)
-refusal_of (fault.Parse f) = at_or_memory (parse.place_of_fault f) letter_p (parse.number_of f)
+refusal_of (fault.Lex f) = at_or_memory (lex.place_of_fault f) letter_l (lex.code_of f)
+refusal_of (fault.Parse f) = at_or_memory (parse.place_of_fault f) letter_p (parse.code_of f)
 refusal_of (fault.Typing f) = typing_refusal f
 refusal_of (fault.Certificate f) = certificate_refusal f
 refusal_of (fault.Check f) = checker_refusal f

@@ -4,16 +4,16 @@ ghost use Rattle.report_text.specs.Faults.{assembler_fault, generator_fault};
 ghost use Rattle.memory.specs.Refused.{the_refusal};
 ghost use Rattle.report_text.specs.declared.fault.Fault.TheVariants.{Memory};
 
-use certificate::fault::ReadFault;
-use checker_expressions::fault::CheckFault;
+use certificate::ReadFault;
+use checker_expressions::CheckFault;
 use code_generator::fault::GenFault;
 use lexer::fault::LexFault;
 use memory::Refused;
-use pcode_assembler::fault::AsmFault;
+use pcode_assembler::AsmFault;
 use std::alloc::AllocError;
 use thiserror::Error;
 use token_cursor::fault::ParseFault;
-use typed_tree::fault::TypeFault;
+use typed_tree::TypeFault;
 
 /// Why a source was not compiled, or a code not assembled: want of memory, or the fault of the crate that refused it.
 #[derive(Clone, Copy, Debug, Error)]

@@ -8,18 +8,17 @@ ghost use Rattle.report_text.specs.Text.{at_or_memory, typing_refusal, certifica
 ghost use Rattle.report_text.specs.Text.{assembler_refusal, checker_refusal, generator_refusal};
 
 use crate::fault::Fault;
-use certificate::fault::ReadFault;
-use checker_expressions::fault::CheckFault;
+use certificate::ReadFault;
+use checker_expressions::CheckFault;
 use code_generator::fault::GenFault;
 use itoa::Buffer;
-use pcode_assembler::fault::AsmFault;
+use pcode_assembler::AsmFault;
 use place::Place;
 use smallvec::SmallVec;
-use stack_machine::stop::{MachineFault, Stop};
+use stack_machine::{MachineFault, Stop};
 use std::alloc::{AllocError, Global};
 use text_input::InputFault;
-use typed_tree::fault::TypeFault;
-use typed_tree::site::{Site, SiteKind};
+use typed_tree::{Site, SiteKind, TypeFault};
 
 /// How many bytes a line takes at most.
 pub const LINE_SIZE: usize = 96;
@@ -45,28 +44,20 @@ pub fn fault_text(alloc: Global, fault: &Fault) -> (Line, u8)
     ensures line { result.0.items ≡ refusal_line (refusal_of fault.now) }
     ensures status { result.1 ≡ refusal_status (refusal_of fault.now) }
 {
+    let empty = Line::new(alloc);
     match refusal_told(fault) {
-        Refusal::Memory => (sentence(Line::new(alloc), "no memory", ""), 3),
-        Refusal::Whole(code) => (
-            refused(sentence_start(Line::new(alloc), "refused "), code),
-            2,
-        ),
-        Refusal::Claims(code) => {
-            let start = sentence_start(Line::new(alloc), "certificate refused ");
-            (refused(start, code), 2)
-        }
+        Refusal::Memory => (sentence(empty, "no memory", ""), 3),
+        Refusal::Whole(code) => (refused(empty, "refused ", code), 2),
+        Refusal::Claims(code) => (refused(empty, "certificate refused ", code), 2),
         Refusal::At { place, code } => {
             let start = placed(alloc, place.line, place.column);
-            (refused(sentence_start(start, ": refused "), code), 2)
+            (refused(start, ": refused ", code), 2)
         }
         Refusal::Certificate { line, code } => (line_refused(alloc, "certificate:", line, code), 2),
         Refusal::Code { line, code } => (line_refused(alloc, "code:", line, code), 2),
         Refusal::Claim { place, code } => {
             let start = placed(alloc, place.line, place.column);
-            (
-                refused(sentence_start(start, ": certificate refused "), code),
-                2,
-            )
+            (refused(start, ": certificate refused ", code), 2)
         }
     }
 }
@@ -136,16 +127,20 @@ pub fn refusal_told(fault: &Fault) -> Refusal
     }
 }
 
+fn code_of(letter: u8, number: u8) -> RuleCode
+    ensures { result ≡ record { letter = letter; number = number } }
+{
+    RuleCode { letter, number }
+}
+
 // A rule that is broken at a place; want of memory, where there is none.
 fn at_or_memory(place: Option<Place>, letter: u8, number: u8) -> Refusal
     ensures { result ≡ at_or_memory place letter number }
 {
+    let code = code_of(letter, number);
     match place {
         None => Refusal::Memory,
-        Some(place) => Refusal::At {
-            place,
-            code: RuleCode { letter, number },
-        },
+        Some(place) => Refusal::At { place, code },
     }
 }
 
@@ -159,10 +154,7 @@ fn typing_refusal(fault: TypeFault) -> Refusal
 fn certificate_refusal(fault: ReadFault) -> Refusal
     ensures { result ≡ certificate_refusal fault }
 {
-    let code = RuleCode {
-        letter: b'F',
-        number: fault.number(),
-    };
+    let code = code_of(b'F', fault.number());
     match fault.line() {
         None => Refusal::Memory,
         Some(line) => Refusal::Certificate { line, code },
@@ -174,21 +166,12 @@ fn checker_refusal(fault: CheckFault) -> Refusal
 {
     match fault {
         CheckFault::Memory(_) => Refusal::Memory,
-        CheckFault::TooLarge => Refusal::Whole(RuleCode {
-            letter: b'K',
-            number: 10,
-        }),
-        CheckFault::Foreign => Refusal::Claims(RuleCode {
-            letter: b'C',
-            number: 1,
-        }),
-        CheckFault::Broken { rule, place } => Refusal::Claim {
-            place,
-            code: RuleCode {
-                letter: b'C',
-                number: rule.number(),
-            },
-        },
+        CheckFault::TooLarge => Refusal::Whole(code_of(b'K', 10)),
+        CheckFault::Foreign => Refusal::Claims(code_of(b'C', 1)),
+        CheckFault::Broken { rule, place } => {
+            let code = code_of(b'C', rule.number());
+            Refusal::Claim { place, code }
+        }
     }
 }
 
@@ -197,10 +180,7 @@ fn generator_refusal(fault: GenFault) -> Refusal
 {
     match fault {
         GenFault::Memory(_) => Refusal::Memory,
-        GenFault::TooLarge => Refusal::Whole(RuleCode {
-            letter: b'G',
-            number: 1,
-        }),
+        GenFault::TooLarge => Refusal::Whole(code_of(b'G', 1)),
     }
 }
 
@@ -209,13 +189,10 @@ fn assembler_refusal(fault: AsmFault) -> Refusal
 {
     match fault {
         AsmFault::Memory(_) => Refusal::Memory,
-        AsmFault::Refused { rule, line } => Refusal::Code {
-            line,
-            code: RuleCode {
-                letter: b'A',
-                number: rule.number(),
-            },
-        },
+        AsmFault::Refused { rule, line } => {
+            let code = code_of(b'A', rule.number());
+            Refusal::Code { line, code }
+        }
     }
 }
 
@@ -282,23 +259,13 @@ fn numbered(line: Line, number: u64) -> Line
     append(line, buffer.format(number))
 }
 
-fn sentence_start(line: Line, words: &str) -> Line
-    requires capacity { line.capacity ≡ LINE_SIZE }
-    requires short { length line.items + length words.now ≤ LINE_SIZE }
-    ensures text { result.items ≡ line.items ++ words.now }
-    ensures capacity { result.capacity ≡ LINE_SIZE }
-    ensures short { length result.items ≡ length line.items + length words.now }
-{
-    append(line, words)
-}
-
 // Of which text, its line, the code and the line end.
 fn line_refused(alloc: Global, text: &str, number: u64, code: RuleCode) -> Line
     requires { length text.now ≤ name_size }
     ensures { result.items ≡ line_refusal text.now number code }
 {
-    let start = sentence_start(Line::new(alloc), text);
-    refused(sentence_start(numbered(start, number), ": refused "), code)
+    let start = numbered(append(Line::new(alloc), text), number);
+    refused(start, ": refused ", code)
 }
 
 // The words, a name and the line end.
@@ -310,13 +277,13 @@ fn sentence(line: Line, words: &str, name: &str) -> Line
     append(append(append(line, words), name), "\n")
 }
 
-// The code and the line end.
-fn refused(line: Line, code: RuleCode) -> Line
+// The words, the code and the line end.
+fn refused(line: Line, words: &str, code: RuleCode) -> Line
     requires capacity { line.capacity ≡ LINE_SIZE }
-    requires short { length line.items + number_size + 2 ≤ LINE_SIZE }
-    ensures { result.items ≡ line.items ++ code_text code ++ 10 ∷ [] }
+    requires short { length line.items + length words.now + number_size + 2 ≤ LINE_SIZE }
+    ensures { result.items ≡ line.items ++ words.now ++ code_text code ++ 10 ∷ [] }
 {
-    let mut line = line;
+    let mut line = append(line, words);
     line.push_reserved(code.letter);
     append(numbered(line, u64::from(code.number)), "\n")
 }
@@ -326,6 +293,7 @@ fn append(mut line: Line, text: &str) -> Line
     requires short { length line.items + length text.now ≤ LINE_SIZE }
     ensures text { result.items ≡ line.items ++ text.now }
     ensures capacity { result.capacity ≡ LINE_SIZE }
+    ensures short { length result.items ≡ length line.items + length text.now }
 {
     let _fits = line.extend_from_slice(text.as_bytes());
     line

@@ -4,7 +4,7 @@
 
 use interpreter::interpret;
 use lexer::tokens;
-use meaning::outcome::Ending;
+use meaning::Ending;
 use parser::parse;
 use report::compile::compile;
 use report::fault::Fault;

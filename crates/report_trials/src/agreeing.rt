@@ -6,7 +6,7 @@ use crate::numbers::Numbers;
 use crate::shown::{Ran, is_same_end, run};
 use analyser::find;
 use interpreter::interpret;
-use meaning::outcome::{Ending, Outcome};
+use meaning::{Ending, Outcome};
 use report::compile::{Compiled, compile};
 use report::fault::Fault;
 use std::alloc::Global;

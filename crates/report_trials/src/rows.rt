@@ -1,9 +1,9 @@
 use crate::shown::{refusal_told, repeated, stop_told, visits};
-use certificate::fault::ReadFault;
-use pcode_assembler::code::{Point, Site};
+use certificate::ReadFault;
+use pcode_assembler::{Point, Site};
 use report::fault::Fault;
 use report::text::fault_text;
-use stack_machine::stop::{MachineFault, Stop};
+use stack_machine::{MachineFault, Stop};
 use std::alloc::Global;
 use std::test::Fail;
 use test_words::rows::all_hold;

@@ -4,11 +4,10 @@ ghost use Rattle.std.specs.Prelude.{None};
 
 use clap::Error;
 use outside::Outside;
-use pcode_assembler::code::Code;
-use prepared_steps::steps::Prepared;
+use pcode_assembler::Code;
+use prepared_steps::Prepared;
 use stack_machine::bytes::Counted;
-use stack_machine::machine::Machine;
-use stack_machine::stop::Stop;
+use stack_machine::{Machine, Stop};
 use std::alloc::Global;
 use std::mem;
 

@@ -2,8 +2,8 @@
 
 use report::fault::Fault;
 use report::go;
+use stack_machine::Stop;
 use stack_machine::bytes::Counted;
-use stack_machine::stop::Stop;
 use std::alloc::Global;
 use std::io;
 use std::io::ErrorKind;

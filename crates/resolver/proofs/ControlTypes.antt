@@ -11,7 +11,7 @@ use Rattle.types.specs.declared.form.TypeKind.TheVariants as kind_of_type
 use Rattle.typed_tree.specs.declared.tree.Scalar.TheVariants as scalar
 use Rattle.typed_tree.specs.declared.fault.TypeFault.TheVariants.{TooMany}
 use Rattle.typed_tree.specs.WellFormed.{most_entries, most_numbered}
-use Rattle.typing.proofs.Ways.{Goes}
+use Rattle.typing.proofs.Ways.{WayGoes}
 use Rattle.typing.specs.Passing.{Passed, after}
 use Rattle.typing.specs.Steps.{begin_loop, enter, may_change, number_loop}
 use Rattle.expression_resolver.specs.Values.{AreTestedAlike, tested_as}
@@ -38,7 +38,7 @@ unfolding enter
 enter_keeps = record { walks = λ old. by old (nat_le most_entries old.entries) }
   where
     by : (old : Passed) (test : Bool)
-        → Goes Alike old (if test then Err (TooMany old.latest) else Ok (after old.entries [] (record old { entries = old.entries + 1 })))
+        → WayGoes Alike old (if test then Err (TooMany old.latest) else Ok (after old.entries [] (record old { entries = old.entries + 1 })))
     by old true = tt
     by old false = λ id. refl
 
@@ -46,7 +46,7 @@ number_keeps : Keeps number_loop
 number_keeps = record { walks = λ old. by old (nat_le most_numbered old.loops) }
   where
     by : (old : Passed) (test : Bool)
-        → Goes Alike old (if test then Err (TooMany old.latest) else Ok (after old.loops [] (record old { loops = old.loops + 1 })))
+        → WayGoes Alike old (if test then Err (TooMany old.latest) else Ok (after old.loops [] (record old { loops = old.loops + 1 })))
     by old true = tt
     by old false = λ id. refl
 

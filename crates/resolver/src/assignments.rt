@@ -13,8 +13,7 @@ use expression_resolver::{Reached, copied, fitted, reach};
 use place::Place;
 use scopes::Denotation;
 use syntax_tree as syntax;
-use typed_tree::fault::TypeFault;
-use typed_tree::tree::{Assignment, Base, Copying, Fitted, Stmt};
+use typed_tree::{Assignment, Base, Copying, Fitted, Stmt, TypeFault};
 use typing::{DenotedVariable, Typer};
 use typing_rules::as_routine;
 

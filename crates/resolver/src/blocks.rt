@@ -2,7 +2,7 @@ ghost use Rattle.std.specs.Prelude.{◌≡◌, ◌<◌, true, IfOk, map, vec_len
 ghost use Rattle.syntax_tree.specs.declared.Block.TheViews.{out-Routine};
 ghost use Rattle.typed_tree.specs.Kinds.{is_held_stmt};
 ghost use Rattle.typing.specs.Names.{heading_names};
-ghost use Rattle.typing.specs.Outcomes.{Takes};
+ghost use Rattle.typing.specs.Outcomes.{TypingTakes};
 ghost use Rattle.typing.specs.Passing.{each};
 ghost use Rattle.typing.specs.Routines as spec;
 ghost use Rattle.typing.specs.Routines.{typed_block, typed_routine};
@@ -15,8 +15,7 @@ use declarations::{BegunRoutine, begin_block, begin_routine, declare};
 use place::Place;
 use syntax_tree as syntax;
 use syntax_tree::{Name, Routine};
-use typed_tree::fault::TypeFault;
-use typed_tree::tree::{Block, Heading, Stmt};
+use typed_tree::{Block, Heading, Stmt, TypeFault};
 use typing::{BegunBlock, Typer, heading_name};
 
 /// The statements of a block, behind its declarations (6.2.1). The blocks of its routines are made too.
@@ -94,7 +93,7 @@ fn routine(typer: &mut Typer, made: &mut Vec<MadeBlock>, written: &Routine) -> R
 
 // The directive forward stands behind the first heading alone: else the name is declared twice (S1).
 fn forward(typer: &mut Typer, begun: BegunRoutine, place: Place) -> Result<(), TypeFault>
-    ensures { Takes (spec.forward begun.is_first begun.number place typer.old) result typer.new }
+    ensures { TypingTakes (spec.forward begun.is_first begun.number place typer.old) result typer.new }
 {
     if !begun.is_first {
         return Err(TypeFault::DeclaredTwice(place));

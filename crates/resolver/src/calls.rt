@@ -19,9 +19,9 @@ use expression_resolver::{TypedExpr, expression, first_place, named_file, routin
 use place::Place;
 use scopes::{Denotation, File, RequiredProcedure};
 use syntax_tree as syntax;
-use typed_tree::fault::TypeFault;
-use typed_tree::site::SiteKind;
-use typed_tree::tree::{ProcedureCall, Stmt, Width, WriteParameter, Writing, Written};
+use typed_tree::{
+    ProcedureCall, SiteKind, Stmt, TypeFault, Width, WriteParameter, Writing, Written,
+};
 use types::{TypeId, TypeTable};
 use typing::Typer;
 use typing_rules::{TypedValue, as_procedure, as_routine, representation};

@@ -1,11 +1,11 @@
 ghost use Rattle.std.specs.Prelude.{◌≡◌, ◌∷◌, [], ◌++◌, IfOk};
-ghost use Rattle.typing.specs.Outcomes.{Takes};
+ghost use Rattle.typing.specs.Outcomes.{TypingTakes};
 ghost use Rattle.typing.specs.Statements as spec;
 ghost use Rattle.resolver.specs.Made.{MakesConstants};
 
 use indexmap::IndexSet;
 use syntax_tree::Constant;
-use typed_tree::fault::TypeFault;
+use typed_tree::TypeFault;
 use types::TypeId;
 use typing::{Typer, constant_place};
 
@@ -34,7 +34,7 @@ fn case_constant(
     written: &Constant,
     seen: &mut IndexSet<i32>,
 ) -> Result<i32, TypeFault>
-    ensures typed { Takes (spec.case_constant type_id seen.old.keys written.now typer.old) result typer.new }
+    ensures typed { TypingTakes (spec.case_constant type_id seen.old.keys written.now typer.old) result typer.new }
     ensures seen { IfOk result (λ value. seen.new.keys ≡ seen.old.keys ++ value ∷ []) }
 {
     let fault = TypeFault::CaseConstant(constant_place(written));

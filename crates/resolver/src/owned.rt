@@ -1,7 +1,7 @@
 ghost use Rattle.resolver.specs.Made.{Boxes};
 
 use std::alloc::Global;
-use typed_tree::fault::TypeFault;
+use typed_tree::TypeFault;
 
 /// What was made. Where it was refused the parts that were made before are let go by calls of `drop`, and the fault is
 /// returned: a `?` lets them go itself, which takes four times as long to prove.

@@ -25,8 +25,7 @@ use crate::typed::{LaidBlocks, MadeBlock};
 use declarations::begin_program;
 use std::alloc::{AllocError, Global};
 use syntax_tree::Program;
-use typed_tree::fault::TypeFault;
-use typed_tree::tree::{Block, Heading, Tree};
+use typed_tree::{Block, Heading, Tree, TypeFault};
 use typing::Typer;
 
 /// The typed tree of a program, or the first rule of names and types that it breaks, with its place.

@@ -3,7 +3,7 @@ ghost use Rattle.std.specs.Prelude.{◌≡◌, true, IfOk, map};
 ghost use Rattle.typed_tree.specs.Kinds.{is_held_read, is_held_stmt};
 ghost use Rattle.typed_tree.specs.Tests.{all_hold};
 ghost use Rattle.typing.specs.Expressions.{expression, read_variable, written_actual};
-ghost use Rattle.typing.specs.Outcomes.{Takes};
+ghost use Rattle.typing.specs.Outcomes.{TypingTakes};
 ghost use Rattle.typing.specs.Passing.{each};
 ghost use Rattle.typing.specs.Statements as spec;
 ghost use Rattle.resolver.specs.Made.{MakesRead, MakesReads, MakesStmt};
@@ -14,8 +14,7 @@ use expression_resolver::{access, first_place, named_variable};
 use place::Place;
 use scopes::RequiredProcedure;
 use syntax_tree::{Actual, Expr, Name, Selector};
-use typed_tree::fault::TypeFault;
-use typed_tree::tree::{ReadVariable, Reading, Stmt};
+use typed_tree::{ReadVariable, Reading, Stmt, TypeFault};
 use typing::Typer;
 use typing_rules::read_as;
 
@@ -45,7 +44,7 @@ pub(crate) fn read(
 // The point at which a readln wants a line end, at its name.
 #[tactic(auto, unfolding(typing::specs::Statements::line_point))]
 fn line_point(typer: &mut Typer, place: Place, ends_line: bool) -> Result<Option<u32>, TypeFault>
-    ensures { Takes (spec.line_point place ends_line typer.old) result typer.new }
+    ensures { TypingTakes (spec.line_point place ends_line typer.old) result typer.new }
 {
     if !ends_line {
         return Ok(None);

@@ -12,8 +12,7 @@ ghost use Rattle.resolver.specs.Made.{MakesRecord, MakesRecords};
 use expression_resolver::{access, named_variable};
 use std::alloc::{AllocError, Global};
 use syntax_tree::RecordVariable;
-use typed_tree::fault::TypeFault;
-use typed_tree::tree::{Access, Base, PathStep, Selector, WithRecord};
+use typed_tree::{Access, Base, PathStep, Selector, TypeFault, WithRecord};
 use typing::{OpenRecord, Typer};
 
 /// The records of a with, each of which is opened before the next is looked up.

@@ -18,8 +18,7 @@ use crate::records::{close_records, opened_records};
 use indexmap::IndexSet;
 use place::Place;
 use syntax_tree as syntax;
-use typed_tree::fault::TypeFault;
-use typed_tree::tree::{CaseHead, ForHead, LoopHead, Stmt, WithHead};
+use typed_tree::{CaseHead, ForHead, LoopHead, Stmt, TypeFault, WithHead};
 use types::TypeId;
 use typing::Typer;
 

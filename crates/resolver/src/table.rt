@@ -7,8 +7,7 @@ ghost use Rattle.resolver.specs.Table.{Meets, closed, controlled, meets, opened,
 use crate::typed::MadeBlock;
 use memory::Refused;
 use std::alloc::{AllocError, Global};
-use typed_tree::fault::TypeFault;
-use typed_tree::tree::{Loop, Stmt};
+use typed_tree::{Loop, Stmt, TypeFault};
 
 /// The table of the loops of blocks, which stand in the order of the text.
 pub(crate) fn table_of(alloc: Global, blocks: &[MadeBlock]) -> Result<Vec<Loop>, TypeFault>

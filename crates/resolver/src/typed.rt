@@ -1,4 +1,4 @@
-use typed_tree::tree::{Block, Loop};
+use typed_tree::{Block, Loop};
 
 /// A block that was made, by its number.
 #[derive(Drop)]

@@ -12,7 +12,7 @@ use Rattle.run_ports.specs.Feeding.{Source, Tail, MayGo, Ended, Failed, MayGive,
 use Rattle.run_ports.specs.Feeding.{joined, last_call, left}
 use Rattle.run_ports.specs.Ports.{Ports, Offers, piece_of}
 use Rattle.run_ports.specs.Reads.{Answers, GoesOutAs, Reads, lost_in, read_failures_in}
-use Rattle.run_ports.specs.Steps.{Takes}
+use Rattle.run_ports.specs.Steps.{InputTakes}
 use Rattle.run_ports.specs.Wanted.{read_with}
 use Rattle.run_ports.proofs.Calls.{Each-map, Follows, Gave-then, behind-behind, calls-then, ended-then, failed-then, joined-append, joined-calls, may_first}
 use Rattle.run_ports.proofs.Calls.{may_second, needed-then, tail_then}
@@ -193,7 +193,7 @@ module _ {A B : Type 0} (r : Bool → List ℕ → Reading A) (c t : Bool → Li
 
 -- an operation, and then the next byte is gone
 pub Reads-takes : {A B : Type 0} (r : Bool → List ℕ → Reading A) (t : Bool → List ℕ → Reading B) (v : A) (w : B) (old mid new : RunPorts) (a b : Feeds)
-    (before after : Ports) → Takes mid.input new.input
+    (before after : Ports) → InputTakes mid.input new.input
     → ((fails : Bool) (xs rest : List ℕ) (byte : ℕ) → r fails xs ≡ ReadsIt v (byte ∷ rest) → t fails xs ≡ ReadsIt w rest)
     → ((xs : List ℕ) → r true xs ≡ Ends → t true xs ≡ Ends) → Reads r (Ok v) old mid a b before after → Reads t (Ok w) old new a b before after
 Reads-takes r t v w old mid new a b before after takes answers ends h = record {

@@ -13,7 +13,7 @@ use Rattle.run_ports.specs.declared.ports.RunPorts.{RunPorts}
 use Rattle.run_ports.specs.Feeding.{Feeds}
 use Rattle.run_ports.specs.Ports.{Ports}
 use Rattle.run_ports.specs.Reads.{Answers, Reads, lost_in, read_failures_in}
-use Rattle.run_ports.specs.Steps.{Takes, byte_taken, looked_at, sign_taken}
+use Rattle.run_ports.specs.Steps.{InputTakes, byte_taken, looked_at, sign_taken}
 use Rattle.run_ports.specs.Wanted.{one_if, read_with}
 use Rattle.run_ports.proofs.Reading.{Begins, Reads-as, Reads-stops, Reads-takes, Reads-then}
 
@@ -94,7 +94,7 @@ take_looked byte fails [] rest next e = cc
 take_looked byte fails (x ∷ xs) rest next e = ap (λ y. ReadsIt y xs) (ap (read_value 0) e) ∙ ap (λ r. ReadsIt byte (read_rest (byte_taken (read_rest r)))) e
 
 -- a byte that was looked at is taken
-pub Taken-is : (byte : ℕ) (old mid new : RunPorts) (a b : Feeds) (before after : Ports) → Takes mid.input new.input
+pub Taken-is : (byte : ℕ) (old mid new : RunPorts) (a b : Feeds) (before after : Ports) → InputTakes mid.input new.input
     → Reads (λ fails. looked_at) (Ok byte) old mid a b before after → Reads (λ fails. byte_taken) (Ok byte) old new a b before after
 Taken-is byte old mid new a b before after takes h =
     Reads-takes (λ fails. looked_at) (λ fails. byte_taken) byte byte old mid new a b before after takes (take_looked byte) (looked_ends byte_taken refl) h

@@ -48,7 +48,7 @@ pub record Fills (answer : Result (Unit {0}) ReadStop) (old new : Input) (feeds 
   pub none : tail ≡ Failed → window new ≡ []
 
 -- the next byte is gone
-pub record Takes (old new : Input) : Type 0 where
+pub record InputTakes (old new : Input) : Type 0 where
   pub byte : ℕ
   pub rest : (source : Source) → left old source ≡ byte ∷ left new source
   pub at_end : new.is_at_end ≡ old.is_at_end

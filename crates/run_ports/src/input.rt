@@ -29,7 +29,7 @@ pub struct Input {
 impl Input {
     ghost use Rattle.run_ports.specs.Feeding.{Source, feeds, left, readable, window};
     ghost use Rattle.run_ports.specs.Reads.{read_failures_in};
-    ghost use Rattle.run_ports.specs.Steps.{Fills, Takes, may_take};
+    ghost use Rattle.run_ports.specs.Steps.{Fills, InputTakes, may_take};
 
     /// Holds nothing.
     pub fn new(alloc: Global) -> Result<Input, AllocError> {
@@ -76,7 +76,7 @@ impl Input {
     /// Goes past it.
     pub fn take(&mut self)
         requires { self.old.next < self.old.held }
-        ensures takes { Takes self.old self.new }
+        ensures takes { InputTakes self.old self.new }
         ensures may_take { (given : ℕ) → may_take self.new given < may_take self.old given }
     {
         self.next += 1;

@@ -8,8 +8,7 @@ ghost use Rattle.scopes.specs.Scopes.{region_of, said};
 ghost use Rattle.memory.specs.Refused.{the_refusal};
 ghost use Rattle.scopes.specs.declared.fault.ScopeFault.TheVariants.{Memory};
 
-use crate::denotation::{Definition, Denotation};
-use crate::fault::ScopeFault;
+use crate::{Definition, Denotation, ScopeFault};
 use indexmap::IndexMap;
 use std::alloc::{AllocError, Global};
 use std::marker::Model;

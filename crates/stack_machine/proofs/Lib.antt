@@ -16,6 +16,5 @@ pub mod Finishing
 pub mod Growing
 mod Failing
 pub mod Seen
-pub mod Written
 pub mod Standing
 pub mod Moving

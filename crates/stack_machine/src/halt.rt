@@ -3,8 +3,8 @@ ghost use Rattle.stack_machine.specs.declared.halt.Halt.TheVariants.{Fault};
 ghost use Rattle.stack_machine.specs.Halts.{stop_at, unread};
 ghost use Rattle.stack_machine.specs.Machine.{tables_of};
 
-use crate::stop::{MachineFault, Stop};
-use pcode_assembler::code::Code;
+use crate::{MachineFault, Stop};
+use pcode_assembler::Code;
 use run_ports::fault::ReadStop;
 use text_input::InputFault;
 

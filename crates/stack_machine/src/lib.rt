@@ -8,9 +8,14 @@ mod halt;
 pub mod laws;
 pub mod machine;
 mod rows;
-mod set_row;
 pub mod stop;
 mod store;
 mod writing;
 
 pub use byte_ports::bytes;
+pub use cell::Cell;
+pub(crate) use cells::{Cells, number_of};
+pub(crate) use form::Form;
+pub use machine::Machine;
+pub use stop::{MachineFault, Stop};
+pub(crate) use store::Store;

@@ -2,7 +2,7 @@ ghost use Rattle.std.specs.Prelude.{◌≡◌};
 ghost use Rattle.stack_machine.specs.Cells.{values};
 ghost use Rattle.stack_machine.specs.Rows as rows;
 
-use crate::cells::number_of;
+use crate::number_of;
 
 /// How a row of numbers stands to another: -1, 0 or 1, by their first difference (ISO 7185:1990, 6.7.2.5).
 #[inline(never)]

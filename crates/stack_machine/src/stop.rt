@@ -1,4 +1,4 @@
-use pcode_assembler::code::{Point, Site};
+use pcode_assembler::{Point, Site};
 use text_input::InputFault;
 
 /// Why a run ended.

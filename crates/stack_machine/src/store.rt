@@ -10,9 +10,8 @@ mod calls;
 mod hastening;
 mod sets;
 
-use crate::cells::Cells;
 use crate::rows::order;
-use crate::stop::MachineFault;
+use crate::{Cells, MachineFault};
 use machine_arithmetic::arithmetic::{Dyadic, Monadic, is_true, product};
 use std::alloc::{AllocError, Global};
 

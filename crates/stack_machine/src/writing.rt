@@ -4,8 +4,7 @@ ghost use Rattle.run_ports.specs.Ports.{PassesOrLoses, write_failures_in};
 ghost use Rattle.stack_machine.specs.Texts as texts;
 ghost use Rattle.stack_machine.specs.Texts.{characters};
 
-use crate::cells::number_of;
-use crate::form::Form;
+use crate::{Form, number_of};
 use byte_ports::bytes::Sink;
 use itoa::Buffer;
 use machine_arithmetic::arithmetic::is_true;

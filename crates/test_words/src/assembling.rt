@@ -1,7 +1,6 @@
 //! Codes that tests write as texts.
 
-use pcode_assembler::assemble;
-use pcode_assembler::code::Code;
+use pcode_assembler::{Code, assemble};
 use std::alloc::Global;
 use std::test::Fail;
 

@@ -2,10 +2,9 @@ ghost use Rattle.std.specs.Prelude.{◌≡◌, ◌≤◌, [], IfOk, string_bytes
 ghost use Rattle.stack_machine.specs.Run.{machine};
 ghost use Rattle.test_words.specs.Runs.{IsToldRun, fault_word, word_of};
 
-use pcode_assembler::code::{Code, Point, Site};
+use pcode_assembler::{Code, Point, Site};
 use stack_machine::bytes::Counted;
-use stack_machine::machine::Machine;
-use stack_machine::stop::{MachineFault, Stop};
+use stack_machine::{Machine, MachineFault, Stop};
 use std::alloc::Global;
 use std::test::Fail;
 use text_input::InputFault;

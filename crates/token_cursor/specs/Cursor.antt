@@ -9,8 +9,8 @@ use Rattle.reading.specs.Reading.{Outcome, Reading, ◌>>◌, expect, pure}
 use Rattle.token_cursor.specs.declared.cursor.Cursor.{Cursor}
 
 -- what is taken from the tokens that are left, if something is, and what is left then
-abbrev pub Takes : {A : Type 0} → Reading (Option A) → Cursor → Option A → Cursor → Type 0
-Takes reading old found new = reading old.rest.now ≡ Ok (found, new.rest.now)
+abbrev pub CursorTakes : {A : Type 0} → Reading (Option A) → Cursor → Option A → Cursor → Type 0
+CursorTakes reading old found new = reading old.rest.now ≡ Ok (found, new.rest.now)
 
 -- a form that is made, by how it looks, and what is left then; or why there is none, and where: want of memory, or what
 -- the outcome is

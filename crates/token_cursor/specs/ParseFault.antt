@@ -11,11 +11,11 @@ use Rattle.reading.specs.declared.refusal.Refusal.{Refusal}
 use Rattle.reading.specs.declared.refusal.Refusal.TheVariants as refusal
 
 -- the number of a fault behind the letter P, and 0 for want of memory
-abbrev pub number_of : ParseFault → ℕ
-number_of (Memory _) = 0
-number_of (NoProgram p) = 1
-number_of (TooDeep p) = 2
-number_of (LeftOut p) = 3
+abbrev pub code_of : ParseFault → ℕ
+code_of (Memory _) = 0
+code_of (NoProgram p) = 1
+code_of (TooDeep p) = 2
+code_of (LeftOut p) = 3
 
 -- where a fault stands in the text
 abbrev pub place_of_fault : ParseFault → Option Place

@@ -24,11 +24,11 @@ pub enum ParseFault {
 }
 
 impl ParseFault {
-    ghost use Rattle.token_cursor.specs.ParseFault.{number_of, place_of_fault};
+    ghost use Rattle.token_cursor.specs.ParseFault.{code_of, place_of_fault};
 
     /// Its number behind the letter P, from 1 to 3, or 0 for `Memory`.
     pub fn number(&self) -> u8
-        ensures { result ≡ number_of self.now }
+        ensures { result ≡ code_of self.now }
     {
         match self {
             ParseFault::Memory(_) => 0,

@@ -8,3 +8,7 @@ pub mod kept;
 pub mod left_out;
 pub mod nesting;
 pub mod operator;
+
+pub use cursor::{Cursor, Read};
+pub use kept::{boxed, put};
+pub use nesting::{MAX_NESTING, inside};

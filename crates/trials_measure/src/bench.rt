@@ -1,10 +1,8 @@
 //! Runs of a code of 999,999 straight-line instructions.
 
-use pcode_assembler::code::{Code, Site};
-use pcode_assembler::instr::Instr;
+use pcode_assembler::{Code, Instr, Site};
 use stack_machine::bytes::Counted;
-use stack_machine::machine::Machine;
-use stack_machine::stop::Stop;
+use stack_machine::{Machine, Stop};
 use std::alloc::{AllocError, Global};
 use std::io;
 

@@ -3,13 +3,12 @@
 ghost use Rattle.std.specs.Prelude.{◌≤◌, option_map};
 ghost use Rattle.stack_machine.specs.Stands.{StandsIf};
 
-use pcode_assembler::assemble;
-use pcode_assembler::code::Code;
-use prepared_steps::steps::Prepared;
+use pcode_assembler::{Code, assemble};
+use prepared_steps::Prepared;
 use preparer::prepare::prepare;
 use report_text::text::{Line, stop_text};
+use stack_machine::Machine;
 use stack_machine::bytes::Counted;
-use stack_machine::machine::Machine;
 use std::alloc::{AllocError, Global};
 use std::io::Read;
 use std::{fs, io};

@@ -3,8 +3,7 @@
 use pcode_assembler::assemble;
 use preparer::prepare::prepare;
 use stack_machine::bytes::Counted;
-use stack_machine::machine::Machine;
-use stack_machine::stop::Stop;
+use stack_machine::{Machine, Stop};
 use std::{fs, io};
 
 /// The cells of the machine.

@@ -7,7 +7,7 @@ use Rattle.place.specs.Place.{comes_before}
 use Rattle.typed_tree.specs.declared.site.Point.{Point}
 use Rattle.typed_tree.specs.declared.site.Site.{Site}
 use Rattle.typed_tree.specs.declared.site.SiteKind.{SiteKind}
-use Rattle.typed_tree.specs.Sites.{number_of}
+use Rattle.typed_tree.specs.Sites.{code_of}
 
 -- from 0, one after another
 abbrev pub AreInOrder : List Site → Type 0
@@ -26,7 +26,7 @@ abbrev pub stands_before : Stands → Stands → Bool
 stands_before first second =
     comes_before first.1 second.1
     || (nat_eq first.1.line second.1.line && nat_eq first.1.column second.1.column
-    && nat_lt (number_of first.0) (number_of second.0))
+    && nat_lt (code_of first.0) (code_of second.0))
 
 -- each stands before the next
 abbrev pub AreByPlace : List Stands → Type 0

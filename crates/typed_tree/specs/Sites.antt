@@ -7,20 +7,20 @@ use Rattle.typed_tree.specs.declared.site.SiteKind.TheVariants.{DivisionByZero, 
 use Rattle.typed_tree.specs.declared.site.SiteKind.TheVariants.{Overflow, Width, SetMember}
 
 -- the number of a kind, from 1 to 13
-abbrev pub number_of : SiteKind → ℕ
-number_of Index = 1
-number_of Subrange = 2
-number_of UndefinedVariable = 3
-number_of UndefinedResult = 4
-number_of DivisionByZero = 5
-number_of ModByZeroOrLess = 6
-number_of Case = 7
-number_of Chr = 8
-number_of Succ = 9
-number_of Pred = 10
-number_of Overflow = 11
-number_of Width = 12
-number_of SetMember = 13
+abbrev pub code_of : SiteKind → ℕ
+code_of Index = 1
+code_of Subrange = 2
+code_of UndefinedVariable = 3
+code_of UndefinedResult = 4
+code_of DivisionByZero = 5
+code_of ModByZeroOrLess = 6
+code_of Case = 7
+code_of Chr = 8
+code_of Succ = 9
+code_of Pred = 10
+code_of Overflow = 11
+code_of Width = 12
+code_of SetMember = 13
 
 -- the kind of a number
 abbrev pub kind_of : ℕ → Option SiteKind

@@ -3,7 +3,7 @@ ghost use Rattle.std.specs.Prelude.{◌≡◌, map};
 ghost use Rattle.typed_tree.specs.Calls.{actuals_hold_call, any_holds, hold_call, holds_call, link_holds_call_of};
 ghost use Rattle.typed_tree.specs.Calls.{passed_holds_call, whole_holds_call};
 
-use crate::tree::{Expr, Link, Passed, Whole};
+use crate::{Expr, Link, Passed, Whole};
 
 /// Whether the expression holds a call of a function.
 #[cycle(holds_call)]

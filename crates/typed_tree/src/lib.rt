@@ -7,4 +7,13 @@ pub mod fault;
 pub mod site;
 pub mod tree;
 
-pub use tree::sites;
+pub use calls::{actuals_hold_call, hold_call, holds_call, passed_holds_call, whole_holds_call};
+pub use fault::TypeFault;
+pub use site::{Point, Site, SiteKind};
+pub use tree::{
+    Access, Assignment, Base, Block, Calculation, Call, CaseHead, Copying, Designator, Direction,
+    Dyadic, Expr, Fitted, ForHead, FunctionResult, Heading, InputTest, Link, Loop, LoopHead,
+    Monadic, Passed, PathStep, ProcedureCall, RangeTest, ReadVariable, Readable, Reading, Relation,
+    Representation, Scalar, Selector, SetRelation, Shift, Stmt, Tree, Variable, VariableKind,
+    Whole, Width, WithHead, WithRecord, WriteParameter, Writing, Written, sites,
+};

@@ -1,5 +1,5 @@
 ghost use Rattle.std.specs.Prelude.{◌≡◌, ◌≤◌, length};
-ghost use Rattle.typed_tree.specs.Sites.{number_of, name_of, kind_of};
+ghost use Rattle.typed_tree.specs.Sites.{code_of, name_of, kind_of};
 
 use place::Place;
 
@@ -32,7 +32,7 @@ pub enum SiteKind {
 impl SiteKind {
     /// Its number, from 1 to 13.
     pub fn number(self) -> u8
-        ensures { result ≡ number_of self }
+        ensures { result ≡ code_of self }
     {
         self as u8
     }

@@ -1,6 +1,6 @@
 ghost use Rattle.std.specs.Prelude.{◌≡◌};
 
-use crate::site::{Point, Site};
+use crate::{Point, Site};
 use place::Place;
 use types::{OrdinalRange, TypeId, TypeTable};
 

@@ -5,8 +5,7 @@ ghost use Rattle.types.specs.Parts.{GoesOn, IsInside, steps_to};
 ghost use Rattle.types.specs.Types.{before, cells_at, cells_of, values_at};
 ghost use Rattle.types.specs.Forms.{Array, field_form};
 
-use crate::form::{Field, Step, TypeForm, TypeId};
-use crate::table::TypeTable;
+use crate::{Field, Step, TypeForm, TypeId, TypeTable};
 use std::alloc::AllocError;
 
 // A place from 0 among the cells of a type, which is one of the first so many types of a table or else a scalar.

@@ -3,7 +3,7 @@ ghost use Rattle.types.specs.Forms.{form_of};
 ghost use Rattle.types.specs.declared.form.TypeKind.TheVariants.{Ordinal};
 ghost use Rattle.types.specs.Types.{form_kind, form_range, is_same, kind_range, scalar_range, values_in};
 
-use crate::sets::SetBase;
+use crate::SetBase;
 
 /// What a type is made of (ISO 7185:1990, 6.4), its parts by their numbers in a table.
 #[derive(Drop)]

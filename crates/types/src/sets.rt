@@ -1,7 +1,7 @@
 ghost use Rattle.std.specs.Prelude.{◌≡◌};
 ghost use Rattle.types.specs.Types.{agree, are_compatible_sets, either_told, is_same, joined_base};
 
-use crate::form::TypeId;
+use crate::TypeId;
 
 /// What a value is a set of (6.4.3.4, 6.7.1), as far as it is told: a set constructor is of packed sets and of others
 /// both, and the one without members is of the sets of each host type.

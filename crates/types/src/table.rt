@@ -7,9 +7,8 @@ ghost use Rattle.types.specs.Kept.{counted_of, forms_of};
 ghost use Rattle.memory.specs.Refused.{the_refusal};
 ghost use Rattle.types.specs.declared.refusal.TypeRefusal.TheVariants.{Memory};
 
-use crate::form::{ArrayElement, Field, OrdinalRange, RecordField, TypeForm, TypeId, TypeKind};
 use crate::refusal::TypeRefusal;
-use crate::sets::SetBase;
+use crate::{ArrayElement, Field, OrdinalRange, RecordField, SetBase, TypeForm, TypeId, TypeKind};
 use std::alloc::{AllocError, Global};
 use std::marker::Model;
 

@@ -43,7 +43,8 @@ use Rattle.typing.specs.Routines as Routines
 use Rattle.typing.specs.Routines.{Begun, TypedBlock, TypedRoutine, block_step, routine_step, typed_block, typed_routine}
 use Rattle.typing.specs.Typing as Typing
 use Rattle.scopes.specs.declared.denotation.File.{File}
-use Rattle.typing.proofs.Ways.{Owner, Anyone, Owns, Defines, Way, Stay, One, Then, Token, Site, Ended, below, Goes, Walks, then_walks, pure_walks, given_walks}
+use Rattle.typing.proofs.Ways.{Owner, Anyone, Owns, Defines, Way, Stay, One, Then, Token, Site, Ended, below, WayGoes, Walks, then_walks, pure_walks}
+use Rattle.typing.proofs.Ways.{given_walks}
 use Rattle.typing.proofs.Ways.{by_types_walks, walk}
 use Rattle.typing.proofs.Ways.{each_walks, declare_walks, latest_walks, add_type_walks, pass_walks, enclosing_now_walks, with_enclosing_walks, heading_at_walks}
 use Rattle.typing.proofs.Ways.{open_beside_walks, close_block_walks, open_block_walks, add_heading_walks, open_required_walks}
@@ -60,7 +61,7 @@ module _ (acts : Bool) (owner : Owner) (defines : Defines owner) (depth : ℕ) w
   type_of_name_walks name = record { walks = λ old. by old (Denoters.named_type name (found old.regions (folded name.text.now))) }
     where
       by : (old : Passed) (outcome : Checked TypeId)
-          → Goes (Way acts owner depth depth) old (and_then outcome (λ type_id. Ok (after type_id [] (record old { latest = name.place }))))
+          → WayGoes (Way acts owner depth depth) old (and_then outcome (λ type_id. Ok (after type_id [] (record old { latest = name.place }))))
       by old (Ok type_id) = One (Token name.place)
       by old (Err why) = tt
 
@@ -248,7 +249,7 @@ block_end_walks depth number name end heading = by heading.result
     by None = record { walks = λ old. One (Ended (ends None) refl refl refl) }
     by (Some root) = record { walks = λ old. assigned old (list_any (nat_eq root) old.assigned) refl }
       where
-        assigned : (old : Passed) (test : Bool) → list_any (nat_eq root) old.assigned ≡ test → Goes (Way true Anyone depth depth) old
+        assigned : (old : Passed) (test : Bool) → list_any (nat_eq root) old.assigned ≡ test → WayGoes (Way true Anyone depth depth) old
             (and_then (and_then (if test then Ok (after (tt {0}) [] old) else Err (fault.NeverAssigned name))
             (λ b. behind_marks {A = Option FunctionResult} b.look
             ((site kind.UndefinedResult end >>= (λ defined. pure (Some (record { root = root; defined = defined })))) b.passed)))
@@ -256,7 +257,7 @@ block_end_walks depth number name end heading = by heading.result
         assigned old false is = tt
         assigned old true is = few (nat_le most_sites (length old.sites)) refl
           where
-            few : (many : Bool) → nat_le most_sites (length old.sites) ≡ many → Goes (Way true Anyone depth depth) old
+            few : (many : Bool) → nat_le most_sites (length old.sites) ≡ many → WayGoes (Way true Anyone depth depth) old
                 (and_then (behind_marks {A = Option FunctionResult} [] (and_then (if many then Err (fault.TooMany end)
                 else Ok (after (length old.sites) [] (record old { sites = old.sites ++ (kind.UndefinedResult, end) ∷ []; latest = end })))
                 (λ b. behind_marks b.look (pure (Some (record { root = root; defined = b.answer })) b.passed))))
@@ -409,6 +410,6 @@ program_walks program block law =
     block_end_walks 2 0 program.name.place block.end _
 
 -- whatever a program is typed as, a way is gone
-pub typing_goes : (program : Program) → Goes (Way true Anyone 0 2) (begins program.name.place) (Typing.typing program)
+pub typing_goes : (program : Program) → WayGoes (Way true Anyone 0 2) (begins program.name.place) (Typing.typing program)
 unfolding Typing.typing
 typing_goes program = (program_walks program (typed_block program.block) ((block_walks program.block).at 2)).walks (begins program.name.place)

@@ -72,7 +72,7 @@ use Rattle.typing.specs.Expressions.{Denoted, Written, WrittenActual, WrittenLin
 use Rattle.typing_rules.specs.Targets.{Copy, representation_of}
 use Rattle.typing.specs.Statements as Statements
 use Rattle.typing.specs.Statements.{WrittenVariable, statement, written_record}
-use Rattle.typing.proofs.Ways.{Assigned, Goes, find_walks, targets_at, with_result}
+use Rattle.typing.proofs.Ways.{Assigned, WayGoes, find_walks, targets_at, with_result}
 use Rattle.typing.proofs.Ways.{Owner, Way, Walks, Tells, numbers_of, then_walks, test_walks, mark_walks, pure_walks, given_walks, enter_walks}
 use Rattle.typing.proofs.Ways.{tells_then, tells_on, then_tells, pure_tells, given_tells, wants_file_walks}
 use Rattle.typing.proofs.Ways.{test_tells, walk}
@@ -134,15 +134,15 @@ any_second (x ∷ xs) ys root is = by (nat_eq root x) (any_second xs ys root is)
 told_behind : {A B : Type 0} (root : ℕ) (p : Passing A) (f : A → Passing B) → ((a : A) → Walks (IsTold root) (f a)) → Walks (IsTold root) (p >>= f)
 told_behind {A} {B} root p f rest = record { walks = λ old. by old (p old) }
   where
-    behind : (old between : Passed) (look : Look.Look) (outcome : Checked (After B)) → Goes (IsTold root) between outcome
-        → Goes (IsTold root) old (behind_marks look outcome)
+    behind : (old between : Passed) (look : Look.Look) (outcome : Checked (After B)) → WayGoes (IsTold root) between outcome
+        → WayGoes (IsTold root) old (behind_marks look outcome)
     behind old between look (Ok b) told =
         subst (λ l. list_any (nat_eq root) l ≡ true) (sym (flat_map-append targets_at look b.look))
         (any_second (flat_map targets_at look) (flat_map targets_at b.look) root told)
     behind old between look (Err why) told = tt
 
     by : (old : Passed) (outcome : Checked (After A))
-        → Goes (IsTold root) old (and_then outcome (λ a. behind_marks a.look (f a.answer a.passed)))
+        → WayGoes (IsTold root) old (and_then outcome (λ a. behind_marks a.look (f a.answer a.passed)))
     by old (Ok a) = behind old a.passed a.look (f a.answer a.passed) ((rest a.answer).walks a.passed)
     by old (Err why) = tt
 
@@ -628,13 +628,13 @@ module _ (owner : Owner) (depth : ℕ) where
   target_walks name selectors ws laws = then_walks (find_walks name) (λ d. by d (as_routine d) selectors)
     where
       result_goes : (old : Passed) (variable : ℕ × TypeId) (outcome : Checked (After Statements.Accessed))
-          → Goes (Way true owner depth depth) (with_result variable.0 old) outcome → Goes (IsTold variable.0) (with_result variable.0 old) outcome
-          → Goes (Way true owner depth depth) old (behind_marks [] outcome)
+          → WayGoes (Way true owner depth depth) (with_result variable.0 old) outcome → WayGoes (IsTold variable.0) (with_result variable.0 old) outcome
+          → WayGoes (Way true owner depth depth) old (behind_marks [] outcome)
       result_goes old variable (Ok b) way told = Assigned variable.0 way told
       result_goes old variable (Err why) way told = tt
 
       result_walks : (block : ℕ) (old : Passed) (outcome : Checked (After (ℕ × TypeId))) → Statements.function_target name.place block old ≡ outcome
-          → Goes (Way true owner depth depth) old
+          → WayGoes (Way true owner depth depth) old
           (and_then (and_then outcome (λ v. behind_marks v.look (pure (entire v.answer.0 v.answer.1) v.passed)))
           (λ v. behind_marks v.look (access_typing name selectors ws v.answer v.passed)))
       result_walks block old (Err why) is = tt
@@ -642,7 +642,7 @@ module _ (owner : Owner) (depth : ℕ) where
           let assigns = function_target_is name.place block old v is in
           let variable : Denoted = entire assigns.root assigns.type_id in
           let start = with_result assigns.root old in
-          subst (λ (u : After (ℕ × TypeId)). Goes (Way true owner depth depth) old
+          subst (λ (u : After (ℕ × TypeId)). WayGoes (Way true owner depth depth) old
           (behind_marks (u.look ++ []) (access_typing name selectors ws (entire u.answer.0 u.answer.1) u.passed)))
           assigns.is
           (result_goes old (assigns.root, assigns.type_id) (access_typing name selectors ws variable start)

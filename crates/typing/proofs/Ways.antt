@@ -150,11 +150,11 @@ pub data Way : Bool → Owner → ℕ → ℕ → Look → Passed → Passed →
       → list_any (nat_eq root) (flat_map targets_at look) ≡ true → Way true owner depth depth look old new
 
 -- whatever is answered, what is known before and behind is related so, and it looks so
-abbrev pub Goes : {A : Type 0} → (Look → Passed → Passed → Type 0) → Passed → Checked (After A) → Type 0
-Goes R old outcome = IfOk outcome (λ a. R a.look old a.passed)
+abbrev pub WayGoes : {A : Type 0} → (Look → Passed → Passed → Type 0) → Passed → Checked (After A) → Type 0
+WayGoes R old outcome = IfOk outcome (λ a. R a.look old a.passed)
 
 pub record Walks (R : Look → Passed → Passed → Type 0) {A : Type 0} (p : Passing A) : Type 0 where
-  pub walks : (old : Passed) → Goes R old (p old)
+  pub walks : (old : Passed) → WayGoes R old (p old)
 
 -- the same, and the answer is such a one
 pub record Tells (R : Look → Passed → Passed → Type 0) {A : Type 0} (p : Passing A) (Says : A → Type 0) : Type 0 where
@@ -165,18 +165,19 @@ pub record Tells (R : Look → Passed → Passed → Type 0) {A : Type 0} (p : P
 walk_tells : {R : Look → Passed → Passed → Type 0} {A : Type 0} {p : Passing A} → Walks R p → Tells R p (λ _. Unit {0})
 walk_tells {R = R} {A = A} {p = p} walks = record { tells = λ old. by old (p old) (walks.walks old) }
   where
-    by : (old : Passed) (outcome : Checked (After A)) → Goes R old outcome → IfOk outcome (λ a. R a.look old a.passed × Unit {0})
+    by : (old : Passed) (outcome : Checked (After A)) → WayGoes R old outcome → IfOk outcome (λ a. R a.look old a.passed × Unit {0})
     by old (Ok a) way = (way, tt)
     by old (Err why) way = tt
 
 module _ {acts : Bool} {owner : Owner} {A B : Type 0} where
   then_goes : (from between to : ℕ) (Says : A → Type 0) (f : A → Passing B) → ((a : A) → Says a → Walks (Way acts owner between to) (f a)) → (old : Passed)
       (outcome : Checked (After A)) → IfOk outcome (λ a. Way acts owner from between a.look old a.passed × Says a.answer)
-      → Goes (Way acts owner from to) old (and_then outcome (λ a. behind_marks a.look (f a.answer a.passed)))
+      → WayGoes (Way acts owner from to) old (and_then outcome (λ a. behind_marks a.look (f a.answer a.passed)))
   then_goes from between to Says f walks old (Err why) told = tt
   then_goes from between to Says f walks old (Ok a) told = by (f a.answer a.passed) ((walks a.answer told.1).walks a.passed)
     where
-      by : (outcome : Checked (After B)) → Goes (Way acts owner between to) a.passed outcome → Goes (Way acts owner from to) old (behind_marks a.look outcome)
+      by : (outcome : Checked (After B)) → WayGoes (Way acts owner between to) a.passed outcome → WayGoes (Way acts owner from to) old
+          (behind_marks a.look outcome)
       by (Ok b) more = Then told.0 more
       by (Err why) more = tt
 
@@ -221,7 +222,7 @@ module _ {acts : Bool} {owner : Owner} {A B : Type 0} where
 module _ {A B : Type 0} where
   tested_tells : (R : Look → Passed → Passed → Type 0) (Says : B → Type 0) (test : List Form → A → Checked B)
       → ((types : List Form) (a : A) (b : B) → test types a ≡ Ok b → Says b)
-      → (old : Passed) (outcome : Checked (After A)) → Goes R old outcome
+      → (old : Passed) (outcome : Checked (After A)) → WayGoes R old outcome
       → IfOk (and_then outcome (λ a. and_then (test a.passed.types a.answer) (λ b. Ok (after b a.look a.passed)))) (λ b. R b.look old b.passed × Says b.answer)
   tested_tells R Says test says old (Err why) way = tt
   tested_tells R Says test says old (Ok a) way = by (test a.passed.types a.answer) (says a.passed.types a.answer)
@@ -238,7 +239,7 @@ module _ {A B : Type 0} where
 told_goes : {R : Look → Passed → Passed → Type 0} {A : Type 0} {p : Passing A} {Says : A → Type 0} → Tells R p Says → Walks R p
 told_goes {R = R} {A = A} {p = p} {Says = Says} told = record { walks = λ old. by old (p old) (told.tells old) }
   where
-    by : (old : Passed) (outcome : Checked (After A)) → IfOk outcome (λ a. R a.look old a.passed × Says a.answer) → Goes R old outcome
+    by : (old : Passed) (outcome : Checked (After A)) → IfOk outcome (λ a. R a.look old a.passed × Says a.answer) → WayGoes R old outcome
     by old (Ok a) it = it.0
     by old (Err why) it = tt
 
@@ -278,16 +279,16 @@ module _ {acts : Bool} {owner : Owner} {depth : ℕ} {A : Type 0} where
 -- ---- steps
 
 module _ (R : Look → Passed → Passed → Type 0) {A : Type 0} (old : Passed) where
-  unless_goes : (test : Bool) (why : TypeFault) (a : After A) → (test ≡ false → R a.look old a.passed) → Goes R old (if test then Err why else Ok a)
+  unless_goes : (test : Bool) (why : TypeFault) (a : After A) → (test ≡ false → R a.look old a.passed) → WayGoes R old (if test then Err why else Ok a)
   unless_goes true why a way = tt
   unless_goes false why a way = way refl
 
-  if_goes : (test : Bool) (why : TypeFault) (a : After A) → R a.look old a.passed → Goes R old (if test then Ok a else Err why)
+  if_goes : (test : Bool) (why : TypeFault) (a : After A) → R a.look old a.passed → WayGoes R old (if test then Ok a else Err why)
   if_goes true why a way = way
   if_goes false why a way = tt
 
   answered_goes : {B : Type 0} (checked : Checked B) (f : B → After A) → ((b : B) → checked ≡ Ok b → R (f b).look old (f b).passed)
-      → Goes R old (and_then checked (λ b. Ok (f b)))
+      → WayGoes R old (and_then checked (λ b. Ok (f b)))
   answered_goes (Ok b) f way = way b refl
   answered_goes (Err why) f way = tt
 
@@ -382,7 +383,7 @@ module _ {owner : Owner} {depth : ℕ} where
   enter_walks marked entry = record { walks = λ old. by old (nat_le most_entries old.entries) refl }
     where
       by : (old : Passed) (test : Bool) → nat_le most_entries old.entries ≡ test
-          → Goes (Way true owner depth depth) old
+          → WayGoes (Way true owner depth depth) old
           (and_then (if test then Err (TooMany old.latest) else Ok (after old.entries [] (record old { entries = old.entries + 1 })))
           (λ a. behind_marks a.look (mark (marked a.answer) a.passed)))
       by old true test = tt
@@ -394,7 +395,7 @@ module _ {owner : Owner} {depth : ℕ} where
   enter_loop_walks marked entry = record { walks = λ old. by old (nat_le most_entries old.entries) refl }
     where
       numbered : (old : Passed) → old.entries < most_entries → (test : Bool) → nat_le most_numbered old.loops ≡ test
-          → Goes (Way true owner depth depth) old
+          → WayGoes (Way true owner depth depth) old
           (and_then (behind_marks {A = ℕ × ℕ} [] (and_then
           (if test then Err (TooMany old.latest) else Ok (after old.loops [] (record old { entries = old.entries + 1; loops = old.loops + 1 })))
           (λ l. behind_marks {A = ℕ × ℕ} l.look (pure {A = ℕ × ℕ} (old.entries, l.answer) l.passed))))
@@ -404,7 +405,7 @@ module _ {owner : Owner} {depth : ℕ} where
           One (Loop (marked old.entries old.loops) few (below most_numbered old.loops test) (entry old.entries old.loops))
 
       by : (old : Passed) (test : Bool) → nat_le most_entries old.entries ≡ test
-          → Goes (Way true owner depth depth) old
+          → WayGoes (Way true owner depth depth) old
           (and_then (and_then (if test then Err (TooMany old.latest) else Ok (after old.entries [] (record old { entries = old.entries + 1 })))
           (λ b. behind_marks {A = ℕ × ℕ} b.look ((Steps.number_loop >>= (λ l. pure {A = ℕ × ℕ} (b.answer, l))) b.passed)))
           (λ b. behind_marks b.look (mark (marked b.answer.0 b.answer.1) b.passed)))
@@ -438,7 +439,7 @@ module _ {owner : Owner} {depth : ℕ} where
   open_record_walks place opened = record { walks = λ old. by old (nat_le most_entries (length old.records)) }
     where
       by : (old : Passed) (test : Bool)
-          → Goes {A = Unit {0}} (Way true owner depth (suc depth)) old
+          → WayGoes {A = Unit {0}} (Way true owner depth (suc depth)) old
           (if test then Err (TooMany place)
           else and_then (Steps.field_definitions old.types place opened.type_id (length old.records) (form_at old.types opened.type_id))
           (λ definitions. Ok (after tt [] (record old { regions = opened_with definitions ∷ old.regions; records = old.records ++ opened ∷ [] }))))
@@ -454,8 +455,8 @@ module _ {owner : Owner} {depth : ℕ} where
   unfolding for_body Steps.begin_control Steps.end_control
   for_body_walks root body law = record { walks = λ old. by old (body (with_control root old)) (law.walks (with_control root old)) }
     where
-      by : (old : Passed) (outcome : Checked (After (Unit {0}))) → Goes (Way true owner depth depth) (with_control root old) outcome
-          → Goes (Way true owner depth depth) old
+      by : (old : Passed) (outcome : Checked (After (Unit {0}))) → WayGoes (Way true owner depth depth) (with_control root old) outcome
+          → WayGoes (Way true owner depth depth) old
           (behind_marks [] (behind_marks (Controls root ∷ [])
           (and_then outcome (λ b. behind_marks b.look (behind_marks [] (mark ForEnds (without_control b.passed)))))))
       by old (Ok b) way = Controlled root way
@@ -469,7 +470,7 @@ module _ {acts : Bool} {owner : Owner} {depth : ℕ} where
   declare_walks name denotation defines = record { walks = λ old. by old (define (folded name.text.now) denotation old.regions) refl }
     where
       by : (old : Passed) (outcome : Result (List Region) ScopeFault) → define (folded name.text.now) denotation old.regions ≡ outcome
-          → Goes {A = Unit {0}} (Way acts owner depth depth) old
+          → WayGoes {A = Unit {0}} (Way acts owner depth depth) old
           (and_then (told name.place outcome) (λ regions. Ok (after tt [] (record old { regions = regions }))))
       by old (Ok regions) is = One (Define (folded name.text.now) denotation regions defines is)
       by old (Err why) is = tt

@@ -18,9 +18,9 @@ abbrev pub IsFault : {A : Type 0} → Checked A → TypeFault → Type 0
 IsFault outcome why = (why ≡ Memory the_refusal) ⊎ (outcome ≡ Err why)
 
 -- a step that may lack memory
-abbrev pub Takes : {A : Type 0} → Checked (After A) → Result A TypeFault → Passed → Type 0
-Takes outcome (Ok answer) new = outcome ≡ Ok (after answer [] new)
-Takes outcome (Err why) new = IsFault outcome why
+abbrev pub TypingTakes : {A : Type 0} → Checked (After A) → Result A TypeFault → Passed → Type 0
+TypingTakes outcome (Ok answer) new = outcome ≡ Ok (after answer [] new)
+TypingTakes outcome (Err why) new = IsFault outcome why
 
 -- a form that is made, by what it answers and how it looks
 abbrev pub Makes : {A T : Type 0} → (T → A) → (T → Look) → Checked (After A) → Result T TypeFault → Passed → Type 0

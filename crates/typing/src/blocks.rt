@@ -3,15 +3,13 @@ ghost use Rattle.memory.specs.Refused.{the_refusal};
 ghost use Rattle.typed_tree.specs.declared.fault.TypeFault.TheVariants.{Memory};
 ghost use Rattle.types.specs.Types.{most_cells};
 
-use crate::typer::{MOST_BLOCKS, MOST_NUMBERED, Typer};
+use crate::{MOST_BLOCKS, MOST_NUMBERED, Made, Typer};
 use indexmap::IndexMap;
 use place::Place;
 use scopes::{Region, copied};
 use std::alloc::Global;
 use std::mem;
-use typed_tree::fault::TypeFault;
-use typed_tree::site::SiteKind;
-use typed_tree::tree::FunctionResult;
+use typed_tree::{FunctionResult, SiteKind, TypeFault};
 
 /// A heading that was passed (ISO 7185:1990, 6.6.1, 6.6.2).
 #[derive(Drop)]
@@ -34,7 +32,7 @@ impl PassedHeading {
     ghost use Rattle.typing.specs.View.{headed_of};
 
     // A copy of it.
-    fn copied(&self, alloc: Global) -> Result<PassedHeading, TypeFault>
+    fn copied(&self, alloc: Global) -> Made<PassedHeading>
         ensures { MatchResult result (λ copy. headed_of copy ≡ headed_of self.now) (λ why. why ≡ Memory the_refusal) }
     {
         Ok(PassedHeading {
@@ -120,7 +118,7 @@ impl Typer {
     ghost use Rattle.typing.specs.Blocks.{heading_ends, block_begins, block_ends, BeginsBlock, FindsCallee};
     ghost use Rattle.typing.specs.Names.{folded};
     ghost use Rattle.typing.specs.Expressions.{are_as_many};
-    ghost use Rattle.typing.specs.Outcomes.{Takes, Tells};
+    ghost use Rattle.typing.specs.Outcomes.{TypingTakes, Tells};
     ghost use Rattle.typing.specs.Passing.{after};
     ghost use Rattle.typing.specs.Routines as spec;
     ghost use Rattle.typing.specs.Steps as step;
@@ -128,7 +126,7 @@ impl Typer {
 
     /// A routine may be declared in the block round the place: S4 at its name where its block is nested too deep.
     #[tactic(auto, unfolding(crate::specs::Steps::may_nest))]
-    pub fn may_nest(&self, place: Place) -> Result<(), TypeFault>
+    pub fn may_nest(&self, place: Place) -> Made<()>
         ensures { Tells (step.may_nest place self.now) result self.now }
     {
         if self.enclosing.around.len() + 1 >= MOST_BLOCKS {
@@ -139,7 +137,7 @@ impl Typer {
 
     /// The number of the next block, whose name stands at the place: K10 there where there are too many.
     #[tactic(auto, unfolding(crate::specs::Steps::next_block))]
-    pub fn next_block(&self, place: Place) -> Result<u32, TypeFault>
+    pub fn next_block(&self, place: Place) -> Made<u32>
         ensures { Tells (step.next_block place self.now) result self.now }
     {
         if self.headings.len() >= MOST_NUMBERED {
@@ -162,14 +160,10 @@ impl Typer {
     }
 
     /// It ends, with these parameters and this result; the block round it has so many cells so far.
-    pub fn end_heading(
-        &mut self,
-        cells: u32,
-        parameters: Vec<u32>,
-        root: Option<u32>,
-    ) -> Result<(), TypeFault>
+    pub fn end_heading(&mut self, cells: u32, parameters: Vec<u32>, root: Option<u32>) -> Made<()>
         requires few { cells ≤ most_cells }
-        ensures { Takes (heading_ends (record (self.old.enclosing) { cells = cells }) parameters.items root self.old)
+        ensures { TypingTakes (heading_ends (record (self.old.enclosing) { cells = cells }) parameters.items root
+            self.old)
             result self.new }
     {
         let mut around = Vec::from_slice(self.alloc, &self.enclosing.around)?;
@@ -187,7 +181,7 @@ impl Typer {
     }
 
     /// A block begins, behind the heading of its number, which defines these names, in small letters.
-    pub fn begin_block(&mut self, number: u32, names: &[Vec<u8>]) -> Result<BegunBlock, TypeFault>
+    pub fn begin_block(&mut self, number: u32, names: &[Vec<u8>]) -> Made<BegunBlock>
         ensures { BeginsBlock (block_begins number (map (λ name. name.items) names.now) self.old) result self.new }
     {
         let heading = self.copied_heading(number)?;
@@ -207,7 +201,7 @@ impl Typer {
     }
 
     // A copy of the heading of a number.
-    fn copied_heading(&self, number: u32) -> Result<PassedHeading, TypeFault>
+    fn copied_heading(&self, number: u32) -> Made<PassedHeading>
         ensures { MatchResult result
             (λ copy. headed_of copy ≡ get_or self.now.headings number step.program_heading)
             (λ why. why ≡ Memory the_refusal) }
@@ -234,8 +228,8 @@ impl Typer {
         name: Place,
         end: Place,
         root: Option<u32>,
-    ) -> Result<Option<FunctionResult>, TypeFault>
-        ensures { Takes (spec.result_at_end name end root self.old) result self.new }
+    ) -> Made<Option<FunctionResult>>
+        ensures { TypingTakes (spec.result_at_end name end root self.old) result self.new }
     {
         let Some(root) = root else {
             return Ok(None);
@@ -247,7 +241,7 @@ impl Typer {
 
     // A result is assigned somewhere before.
     #[tactic(auto, unfolding(crate::specs::Steps::is_assigned))]
-    fn is_assigned(&self, place: Place, root: u32) -> Result<(), TypeFault>
+    fn is_assigned(&self, place: Place, root: u32) -> Made<()>
         ensures { Tells (step.is_assigned place root self.now) result self.now }
     {
         if !self.assigned.contains(&root) {
@@ -258,7 +252,7 @@ impl Typer {
 
     /// What is called by the number of its block, with so many actual parameters: K3 at the place where it has not as
     /// many formal ones.
-    pub fn callee(&self, number: u32, count: usize, place: Place) -> Result<Callee, TypeFault>
+    pub fn callee(&self, number: u32, count: usize, place: Place) -> Made<Callee>
         ensures found { FindsCallee (get_or self.now.headings number step.program_heading) place count result }
         ensures memory { result ≡ Err (Memory the_refusal) → IsOk (are_as_many place count
             (length (get_or self.now.headings number step.program_heading).parameters)) }

@@ -2,22 +2,21 @@ ghost use Rattle.std.specs.Prelude.{◌≡◌, true};
 ghost use Rattle.typed_tree.specs.WellFormed.{is_whole};
 ghost use Rattle.typing.specs.Constants.{as_constant, as_ordinal, behind_sign, signed_value, constant_place};
 
-use crate::strings::characters;
-use crate::typer::Typer;
+use crate::{Made, Typer, characters};
 use place::Place;
 use scopes::Denotation;
 use syntax_tree::{Constant, ConstantValue, Sign, SignAt};
-use typed_tree::fault::TypeFault;
+use typed_tree::TypeFault;
 use types::{MAXINT, TypeId, TypeTable};
 
 impl Typer {
-    ghost use Rattle.typing.specs.Outcomes.{Takes};
+    ghost use Rattle.typing.specs.Outcomes.{TypingTakes};
     ghost use Rattle.typing.specs.Constants as spec;
 
     /// What a name denotes that is defined by a constant (6.3).
     #[tactic(auto, unfolding(crate::specs::Constants::constant))]
-    pub fn constant(&mut self, written: &Constant) -> Result<Denotation, TypeFault>
-        ensures { Takes (spec.constant written.now self.old) result self.new }
+    pub fn constant(&mut self, written: &Constant) -> Made<Denotation>
+        ensures { TypingTakes (spec.constant written.now self.old) result self.new }
     {
         let denotation = self.unsigned_constant(&written.value)?;
         behind_sign(written.sign, denotation)
@@ -25,19 +24,16 @@ impl Typer {
 
     /// The value and the type of an ordinal constant; none of a string.
     #[tactic(auto, unfolding(crate::specs::Constants::ordinal_constant))]
-    pub fn ordinal_constant(
-        &mut self,
-        written: &Constant,
-    ) -> Result<Option<(i32, TypeId)>, TypeFault>
-        ensures { Takes (spec.ordinal_constant written.now self.old) result self.new }
+    pub fn ordinal_constant(&mut self, written: &Constant) -> Made<Option<(i32, TypeId)>>
+        ensures { TypingTakes (spec.ordinal_constant written.now self.old) result self.new }
     {
         Ok(as_ordinal(self.constant(written)?))
     }
 
     // A constant without its sign: a number, which is at most maxint, a string, or a name.
     #[tactic(auto, unfolding(crate::specs::Constants::unsigned_constant))]
-    fn unsigned_constant(&mut self, written: &ConstantValue) -> Result<Denotation, TypeFault>
-        ensures { Takes (spec.unsigned_constant written.now self.old) result self.new }
+    fn unsigned_constant(&mut self, written: &ConstantValue) -> Made<Denotation>
+        ensures { TypingTakes (spec.unsigned_constant written.now self.old) result self.new }
     {
         match written {
             ConstantValue::Number { value, place } => {
@@ -64,7 +60,7 @@ impl Typer {
 }
 
 // The constant that a name at a place denotes: K1 where it denotes none.
-fn as_constant(place: Place, denotation: Denotation) -> Result<Denotation, TypeFault>
+fn as_constant(place: Place, denotation: Denotation) -> Made<Denotation>
     ensures { result ≡ as_constant place denotation }
 {
     match denotation {
@@ -84,7 +80,7 @@ fn as_ordinal(constant: Denotation) -> Option<(i32, TypeId)>
 }
 
 // A sign stands before an integer: K1 at the sign where it doesn't.
-fn behind_sign(sign: Option<SignAt>, constant: Denotation) -> Result<Denotation, TypeFault>
+fn behind_sign(sign: Option<SignAt>, constant: Denotation) -> Made<Denotation>
     ensures { result ≡ behind_sign sign constant }
 {
     let Some(SignAt { sign, place }) = sign else {

@@ -5,23 +5,22 @@ ghost use Rattle.memory.specs.Refused.{the_refusal};
 ghost use Rattle.typed_tree.specs.declared.fault.TypeFault.TheVariants.{Memory};
 ghost use Rattle.typing.specs.Denoters.{named_type};
 
-use crate::names::fold_into;
-use crate::typer::Typer;
+use crate::{Made, Typer, fold_into};
 use place::Place;
 use scopes::{Denotation, ScopeFault};
 use syntax_tree::Name;
-use typed_tree::fault::TypeFault;
+use typed_tree::TypeFault;
 use types::{TypeForm, TypeId, TypeRefusal};
 
 impl Typer {
-    ghost use Rattle.typing.specs.Outcomes.{Takes};
+    ghost use Rattle.typing.specs.Outcomes.{TypingTakes};
     ghost use Rattle.typing.specs.Steps as step;
     ghost use Rattle.typing.specs.Denoters as spec;
 
     /// The type that a name denotes: K1 at the name where it denotes anything else.
     #[tactic(auto, unfolding(crate::specs::Denoters::type_of_name))]
-    pub fn type_of_name(&mut self, name: &Name) -> Result<TypeId, TypeFault>
-        ensures { Takes (spec.type_of_name name.now self.old) result self.new }
+    pub fn type_of_name(&mut self, name: &Name) -> Made<TypeId>
+        ensures { TypingTakes (spec.type_of_name name.now self.old) result self.new }
     {
         fold_into(&mut self.key, name.text)?;
         let type_id = named_type(name, self.scopes.find(&self.key))?;
@@ -31,8 +30,8 @@ impl Typer {
 
     /// A type of its own, by its form; the rule that the form breaks is told at the place (Y1, Y2, Y3).
     #[tactic(auto, unfolding(crate::specs::Steps::add_type))]
-    pub fn add_type(&mut self, place: Place, form: TypeForm) -> Result<TypeId, TypeFault>
-        ensures taken { Takes (step.add_type place (form_of form) self.old) result self.new }
+    pub fn add_type(&mut self, place: Place, form: TypeForm) -> Made<TypeId>
+        ensures taken { TypingTakes (step.add_type place (form_of form) self.old) result self.new }
         ensures memory { result ≡ Err (Memory the_refusal) → IsOk (step.add_type place (form_of form) self.old) }
     {
         self.types.add(form).map_err(|rule| refused(rule, place))
@@ -47,8 +46,8 @@ impl Typer {
         place: Place,
         indexes: &[TypeId],
         element: TypeId,
-    ) -> Result<TypeId, TypeFault>
-        ensures { Takes (spec.arrays packed place indexes.now element self.old) result self.new }
+    ) -> Made<TypeId>
+        ensures { TypingTakes (spec.arrays packed place indexes.now element self.old) result self.new }
     {
         let mut left = indexes;
         let mut element = element;
@@ -72,7 +71,7 @@ impl Typer {
         place: Place,
         first: Option<(i32, TypeId)>,
         last: Option<(i32, TypeId)>,
-    ) -> Result<TypeForm, TypeFault>
+    ) -> Made<TypeForm>
         ensures { MatchResult result
             (λ form. spec.between self.now.types place first last ≡ Ok (form_of form))
             (λ why. spec.between self.now.types place first last ≡ Err why) }
@@ -84,11 +83,8 @@ impl Typer {
         if !host.same(self.types.host(last.1)) || !self.types.is_ordinal(first.1) {
             return Err(TypeFault::Mismatch(place));
         }
-        Ok(TypeForm::Subrange {
-            host,
-            first: first.0,
-            last: last.0,
-        })
+        let (first, last) = (first.0, last.0);
+        Ok(TypeForm::Subrange { host, first, last })
     }
 
     /// The form of a set type over a base (6.4.3.4); none where that is not ordinal.
@@ -113,7 +109,7 @@ impl Typer {
 }
 
 /// A number as a value, which is at most maxint: K1 at the place where it isn't.
-pub fn value_of(number: usize, place: Place) -> Result<i32, TypeFault>
+pub fn value_of(number: usize, place: Place) -> Made<i32>
     ensures { result ≡ value_of number place }
 {
     i32::try_from(number).map_err(|_| TypeFault::Mismatch(place))
@@ -132,7 +128,7 @@ fn refused(rule: TypeRefusal, place: Place) -> TypeFault
 }
 
 // The type that a name denotes, by what the scopes answer of it.
-fn named_type(name: &Name, answer: Result<Denotation, ScopeFault>) -> Result<TypeId, TypeFault>
+fn named_type(name: &Name, answer: Result<Denotation, ScopeFault>) -> Made<TypeId>
     ensures { result ≡ named_type name.now answer }
 {
     match answer {

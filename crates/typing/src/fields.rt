@@ -6,10 +6,10 @@ ghost use Rattle.memory.specs.Refused.{the_refusal};
 ghost use Rattle.typed_tree.specs.declared.fault.TypeFault.TheVariants.{Memory};
 ghost use Rattle.typing.specs.Denoters.{named_fields};
 
-use crate::names::folded;
+use crate::folded;
 use std::alloc::Global;
 use syntax_tree::Name;
-use typed_tree::fault::TypeFault;
+use typed_tree::TypeFault;
 use types::{Field, TypeId};
 
 /// Puts fields of a type behind those of a record (6.4.3.3): S1 at a name that one before it has.

@@ -3,15 +3,13 @@ ghost use Rattle.std.specs.Prelude.{◌≡◌};
 ghost use Rattle.typing.specs.Functions.{all_but_first, all_but_last, applied, given_type, is_taken};
 ghost use Rattle.typing.specs.Functions.{operation_on, passing_values, shift_of, test_kind};
 
-use crate::typer::Typer;
+use crate::{Made, Typer};
 use place::Place;
 use scopes::{
     FunctionArgument, FunctionOperation, FunctionTest, FunctionType, FunctionValue,
     RequiredFunction,
 };
-use typed_tree::fault::TypeFault;
-use typed_tree::site::SiteKind;
-use typed_tree::tree::{Calculation, Monadic, RangeTest, Scalar, Shift};
+use typed_tree::{Calculation, Monadic, RangeTest, Scalar, Shift, SiteKind, TypeFault};
 use types::{OrdinalRange, TypeId, TypeTable};
 use typing_rules::{Typed, TypedValue};
 
@@ -127,13 +125,13 @@ fn operation_on(types: &TypeTable, argument: TypeId, begun: BegunFunction) -> Mo
 }
 
 impl Typer {
-    ghost use Rattle.typing.specs.Outcomes.{Takes};
+    ghost use Rattle.typing.specs.Outcomes.{TypingTakes};
     ghost use Rattle.typing.specs.Functions as spec;
 
     /// What a function calculates, with the site of a square's overflow at the function's name.
     #[tactic(auto, unfolding(crate::specs::Functions::calculation_of))]
-    fn calculation(&mut self, value: FunctionValue, place: Place) -> Result<Calculation, TypeFault>
-        ensures { Takes (spec.calculation_of value place self.old) result self.new }
+    fn calculation(&mut self, value: FunctionValue, place: Place) -> Made<Calculation>
+        ensures { TypingTakes (spec.calculation_of value place self.old) result self.new }
     {
         Ok(match value {
             FunctionValue::Same => Calculation::Ordinal,
@@ -147,14 +145,10 @@ impl Typer {
 
     /// The operation of a function at the place of its name, where its site stands.
     #[tactic(auto, unfolding(crate::specs::Functions::begins_as))]
-    pub fn begin_function(
-        &mut self,
-        operation: FunctionOperation,
-        place: Place,
-    ) -> Result<BegunFunction, TypeFault>
-        ensures { Takes (spec.begins_as operation place self.old) result self.new }
+    pub fn begin_function(&mut self, does: FunctionOperation, place: Place) -> Made<BegunFunction>
+        ensures { TypingTakes (spec.begins_as does place self.old) result self.new }
     {
-        Ok(match operation {
+        Ok(match does {
             FunctionOperation::Calculates(value) => {
                 BegunFunction::Calculates(self.calculation(value, place)?)
             }
@@ -173,7 +167,7 @@ impl Typer {
         begun: BegunFunction,
         place: Place,
         argument: Typed,
-    ) -> Result<(Monadic, TypeId), TypeFault>
+    ) -> Made<(Monadic, TypeId)>
         ensures { result ≡ applied self.now.types function begun place argument }
     {
         match argument.value {

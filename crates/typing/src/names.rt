@@ -2,9 +2,11 @@ ghost use Rattle.std.specs.Prelude.{◌≡◌, IfOk, OnOk};
 ghost use Rattle.typing.specs.Names.{folded};
 ghost use Rattle.typing.specs.Routines.{heading_name};
 
+use scopes::FunctionTest::{Character, Next, Previous};
+use scopes::FunctionValue::{Absolute, Parity, Same, Square};
 use scopes::{
-    Denotation, File, FunctionArgument, FunctionOperation, FunctionTest, FunctionType,
-    FunctionValue, InputFunction, RequiredFunction, RequiredProcedure,
+    Denotation, File, FunctionArgument, FunctionOperation, FunctionType, InputFunction,
+    RequiredFunction, RequiredProcedure,
 };
 use std::alloc::{AllocError, Global};
 use syntax_tree::{Heading, Name};
@@ -40,116 +42,48 @@ pub fn heading_name<'a>(heading: &Heading<'a>) -> Name<'a>
     }
 }
 
+// What a required identifier denotes: a constant, a procedure, or a function with what it takes and gives.
+macro_rules! denotes {
+    (constant $value:expr, $type:ident) => {
+        Denotation::Constant {
+            value: $value,
+            type_id: TypeTable::$type,
+        }
+    };
+    (procedure $file:ident, $ends_line:expr) => {
+        Denotation::Procedure(RequiredProcedure {
+            file: File::$file,
+            ends_line: $ends_line,
+        })
+    };
+    ($takes:ident -> $gives:ident, $does:ident $what:ident) => {
+        Denotation::Function(RequiredFunction {
+            takes: FunctionArgument::$takes,
+            gives: FunctionType::$gives,
+            does: FunctionOperation::$does($what),
+        })
+    };
+}
+
 /// The required identifiers (6.2.2.10).
 pub const REQUIRED: [(&[u8], Denotation); 19] = [
     (b"integer", Denotation::TypeName(TypeTable::INTEGER)),
     (b"boolean", Denotation::TypeName(TypeTable::BOOLEAN)),
     (b"char", Denotation::TypeName(TypeTable::CHAR)),
-    (
-        b"maxint",
-        Denotation::Constant {
-            value: MAXINT,
-            type_id: TypeTable::INTEGER,
-        },
-    ),
-    (
-        b"false",
-        Denotation::Constant {
-            value: 0,
-            type_id: TypeTable::BOOLEAN,
-        },
-    ),
-    (
-        b"true",
-        Denotation::Constant {
-            value: 1,
-            type_id: TypeTable::BOOLEAN,
-        },
-    ),
-    (
-        b"write",
-        Denotation::Procedure(RequiredProcedure {
-            file: File::Output,
-            ends_line: false,
-        }),
-    ),
-    (
-        b"writeln",
-        Denotation::Procedure(RequiredProcedure {
-            file: File::Output,
-            ends_line: true,
-        }),
-    ),
-    (
-        b"read",
-        Denotation::Procedure(RequiredProcedure {
-            file: File::Input,
-            ends_line: false,
-        }),
-    ),
-    (
-        b"readln",
-        Denotation::Procedure(RequiredProcedure {
-            file: File::Input,
-            ends_line: true,
-        }),
-    ),
+    (b"maxint", denotes!(constant MAXINT, INTEGER)),
+    (b"false", denotes!(constant 0, BOOLEAN)),
+    (b"true", denotes!(constant 1, BOOLEAN)),
+    (b"write", denotes!(procedure Output, false)),
+    (b"writeln", denotes!(procedure Output, true)),
+    (b"read", denotes!(procedure Input, false)),
+    (b"readln", denotes!(procedure Input, true)),
     (b"eof", Denotation::InputFunction(InputFunction::Eof)),
     (b"eoln", Denotation::InputFunction(InputFunction::Eoln)),
-    (
-        b"abs",
-        Denotation::Function(RequiredFunction {
-            takes: FunctionArgument::Integer,
-            gives: FunctionType::Integer,
-            does: FunctionOperation::Calculates(FunctionValue::Absolute),
-        }),
-    ),
-    (
-        b"sqr",
-        Denotation::Function(RequiredFunction {
-            takes: FunctionArgument::Integer,
-            gives: FunctionType::Integer,
-            does: FunctionOperation::Calculates(FunctionValue::Square),
-        }),
-    ),
-    (
-        b"odd",
-        Denotation::Function(RequiredFunction {
-            takes: FunctionArgument::Integer,
-            gives: FunctionType::Boolean,
-            does: FunctionOperation::Calculates(FunctionValue::Parity),
-        }),
-    ),
-    (
-        b"ord",
-        Denotation::Function(RequiredFunction {
-            takes: FunctionArgument::Ordinal,
-            gives: FunctionType::Integer,
-            does: FunctionOperation::Calculates(FunctionValue::Same),
-        }),
-    ),
-    (
-        b"chr",
-        Denotation::Function(RequiredFunction {
-            takes: FunctionArgument::Integer,
-            gives: FunctionType::Char,
-            does: FunctionOperation::Tests(FunctionTest::Character),
-        }),
-    ),
-    (
-        b"succ",
-        Denotation::Function(RequiredFunction {
-            takes: FunctionArgument::Ordinal,
-            gives: FunctionType::OfArgument,
-            does: FunctionOperation::Tests(FunctionTest::Next),
-        }),
-    ),
-    (
-        b"pred",
-        Denotation::Function(RequiredFunction {
-            takes: FunctionArgument::Ordinal,
-            gives: FunctionType::OfArgument,
-            does: FunctionOperation::Tests(FunctionTest::Previous),
-        }),
-    ),
+    (b"abs", denotes!(Integer -> Integer, Calculates Absolute)),
+    (b"sqr", denotes!(Integer -> Integer, Calculates Square)),
+    (b"odd", denotes!(Integer -> Boolean, Calculates Parity)),
+    (b"ord", denotes!(Ordinal -> Integer, Calculates Same)),
+    (b"chr", denotes!(Integer -> Char, Tests Character)),
+    (b"succ", denotes!(Ordinal -> OfArgument, Tests Next)),
+    (b"pred", denotes!(Ordinal -> OfArgument, Tests Previous)),
 ];

@@ -1,19 +1,17 @@
-use crate::typer::Typer;
+use crate::{Made, Typer};
 use place::Place;
 use syntax_tree::Operator;
-use typed_tree::fault::TypeFault;
-use typed_tree::site::SiteKind;
-use typed_tree::tree::Dyadic;
+use typed_tree::{Dyadic, SiteKind};
 use typing_rules::{Typed, set_operation_behind};
 
 impl Typer {
-    ghost use Rattle.typing.specs.Outcomes.{Takes};
+    ghost use Rattle.typing.specs.Outcomes.{TypingTakes};
     ghost use Rattle.typing.specs.Expressions as spec;
 
     /// The leading site at an expression's first token, if there is one.
     #[tactic(auto, unfolding(crate::specs::Expressions::behind))]
-    pub fn behind(&mut self, lead: Option<SiteKind>, place: Place) -> Result<Option<u32>, TypeFault>
-        ensures { Takes (spec.behind lead place self.old) result self.new }
+    pub fn behind(&mut self, lead: Option<SiteKind>, place: Place) -> Made<Option<u32>>
+        ensures { TypingTakes (spec.behind lead place self.old) result self.new }
     {
         match lead {
             None => Ok(None),
@@ -29,8 +27,8 @@ impl Typer {
         operator: Operator,
         place: Place,
         left: Typed,
-    ) -> Result<Dyadic, TypeFault>
-        ensures { Takes (spec.operation_behind operator place left self.old) result self.new }
+    ) -> Made<Dyadic>
+        ensures { TypingTakes (spec.operation_behind operator place left self.old) result self.new }
     {
         match set_operation_behind(operator, left.value) {
             Some(operation) => Ok(operation),
@@ -40,8 +38,8 @@ impl Typer {
 
     /// The operation of an operator, with its site (6.7.2).
     #[tactic(auto, unfolding(crate::specs::Expressions::operation, crate::specs::Expressions::tested))]
-    fn operation(&mut self, operator: Operator, place: Place) -> Result<Dyadic, TypeFault>
-        ensures { Takes (spec.operation operator place self.old) result self.new }
+    fn operation(&mut self, operator: Operator, place: Place) -> Made<Dyadic>
+        ensures { TypingTakes (spec.operation operator place self.old) result self.new }
     {
         Ok(match operator {
             Operator::Plus => Dyadic::Plus {

@@ -2,10 +2,9 @@ ghost use Rattle.std.specs.Prelude.{◌≡◌, false, Some, option_map};
 ghost use Rattle.types.specs.Forms.{form_of};
 ghost use Rattle.typing.specs.Expressions.{is_of_packed, is_packed, is_packed_at, type_of_field, type_selected};
 
-use crate::typer::Typer;
+use crate::{Made, Typer};
 use place::Place;
-use typed_tree::fault::TypeFault;
-use typed_tree::tree::Selector;
+use typed_tree::{Selector, TypeFault};
 use types::{TypeForm, TypeId, TypeTable};
 
 impl Typer {
@@ -20,7 +19,7 @@ impl Typer {
         selectors: &[Selector],
         component: TypeId,
         place: Place,
-    ) -> Result<(), TypeFault>
+    ) -> Made<()>
         ensures { result ≡ spec.passable self.now.types wanted type_id selectors.now component place }
     {
         if !wanted.same(component) {

@@ -8,12 +8,11 @@ ghost use Rattle.typed_tree.specs.declared.fault.TypeFault.TheVariants.{Memory};
 ghost use Rattle.typing.specs.Steps.{definition_of, field_definitions};
 ghost use Rattle.typing.specs.View.{definition, definition_or_none};
 
-use crate::typer::{MOST_ENTRIES, Typer};
+use crate::{MOST_ENTRIES, Made, Typer};
 use place::Place;
 use scopes::{Definition, Denotation};
 use std::alloc::{AllocError, Global};
-use typed_tree::fault::TypeFault;
-use typed_tree::tree::{Base, PathStep, Selector};
+use typed_tree::{Base, PathStep, Selector, TypeFault};
 use types::{Field, TypeForm, TypeId, TypeTable};
 
 /// A record of a `with` statement.
@@ -42,18 +41,14 @@ pub struct DenotedVariable {
 
 impl Typer {
     ghost use Rattle.typing.specs.Expressions as spec;
-    ghost use Rattle.typing.specs.Outcomes.{Makes, Takes};
+    ghost use Rattle.typing.specs.Outcomes.{Makes, TypingTakes};
     ghost use Rattle.typing.specs.Passing.{after};
     ghost use Rattle.typing.specs.Steps as step;
     ghost use Rattle.typing.specs.View.{denoted_of, record_of};
 
     /// The variable, or the field of a record, that a name at a place denotes: K2 where it denotes none.
     #[tactic(auto, unfolding(crate::specs::Steps::record_at))]
-    pub fn variable_of(
-        &self,
-        place: Place,
-        denotation: Denotation,
-    ) -> Result<DenotedVariable, TypeFault>
+    pub fn variable_of(&self, place: Place, denotation: Denotation) -> Made<DenotedVariable>
         ensures { Makes denoted_of (λ variable. []) (spec.variable_of place denotation self.now) result self.now }
     {
         match denotation {
@@ -81,7 +76,7 @@ impl Typer {
         slot: u32,
         selector: Selector,
         type_id: TypeId,
-    ) -> Result<DenotedVariable, TypeFault>
+    ) -> Made<DenotedVariable>
         ensures { MatchResult result
             (λ made. spec.field_or_none place slot selector type_id (slice_get self.now.records slot)
             ≡ Ok (denoted_of made))
@@ -112,8 +107,8 @@ impl Typer {
 
     /// A record is opened, whose fields are names from here on: K1 at the place where its type is none.
     #[tactic(auto, unfolding(crate::specs::Steps::open_record))]
-    pub fn open_record(&mut self, place: Place, opened: OpenRecord) -> Result<(), TypeFault>
-        ensures { Takes (step.open_record place (record_of opened) self.old) result self.new }
+    pub fn open_record(&mut self, place: Place, opened: OpenRecord) -> Made<()>
+        ensures { TypingTakes (step.open_record place (record_of opened) self.old) result self.new }
     {
         if self.records.len() >= MOST_ENTRIES as usize {
             return Err(TypeFault::TooMany(place));
@@ -142,7 +137,7 @@ fn field_definitions(
     place: Place,
     id: TypeId,
     slot: u32,
-) -> Result<Vec<Definition>, TypeFault>
+) -> Made<Vec<Definition>>
     ensures { MatchResult result
         (λ made. field_definitions types.now place id slot (form_at types.now id)
         ≡ Ok (map definition made.items))

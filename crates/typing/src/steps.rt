@@ -6,18 +6,15 @@ ghost use Rattle.memory.specs.Refused.{the_refusal};
 ghost use Rattle.typed_tree.specs.declared.fault.TypeFault.TheVariants.{Memory};
 ghost use Rattle.typing.specs.Passing.{after};
 
-use crate::names::{REQUIRED, fold_into, folded};
-use crate::typer::{MOST_ENTRIES, MOST_NUMBERED, MOST_SITES, Typer};
+use crate::{MOST_ENTRIES, MOST_NUMBERED, MOST_SITES, Made, REQUIRED, Typer, fold_into, folded};
 use place::Place;
 use scopes::{Denotation, File, Region};
 use syntax_tree::Name;
-use typed_tree::fault::TypeFault;
-use typed_tree::site::{Point, Site, SiteKind};
-use typed_tree::tree::VariableKind;
+use typed_tree::{Point, Site, SiteKind, TypeFault, VariableKind};
 use typing_rules::placed;
 
 impl Typer {
-    ghost use Rattle.typing.specs.Outcomes.{Takes, Tells};
+    ghost use Rattle.typing.specs.Outcomes.{TypingTakes, Tells};
     ghost use Rattle.typing.specs.Steps as spec;
 
     /// A token that the syntax tree tells was passed.
@@ -30,7 +27,7 @@ impl Typer {
 
     /// The number of the statement or expression that is entered.
     #[tactic(auto, unfolding(crate::specs::Steps::enter))]
-    pub fn enter(&mut self) -> Result<u32, TypeFault>
+    pub fn enter(&mut self) -> Made<u32>
         ensures { Tells (spec.enter self.old) result self.new }
     {
         if self.entries >= MOST_ENTRIES {
@@ -43,7 +40,7 @@ impl Typer {
 
     /// The numbers of the loop that is entered: among the statements and expressions, and among the loops.
     #[tactic(auto, unfolding(crate::specs::Steps::begin_loop, crate::specs::Steps::enter))]
-    pub fn enter_loop(&mut self) -> Result<(u32, u32), TypeFault>
+    pub fn enter_loop(&mut self) -> Made<(u32, u32)>
         ensures { Tells (spec.begin_loop self.old) result self.new }
     {
         let number = self.enter()?;
@@ -57,8 +54,8 @@ impl Typer {
 
     /// The id of a new site. Sites come in the order of their tokens.
     #[tactic(auto, using(crate::proofs::Rows::one_site_more), unfolding(crate::specs::Steps::site))]
-    pub fn site(&mut self, kind: SiteKind, place: Place) -> Result<u32, TypeFault>
-        ensures taken { Takes (spec.site kind place self.old) result self.new }
+    pub fn site(&mut self, kind: SiteKind, place: Place) -> Made<u32>
+        ensures taken { TypingTakes (spec.site kind place self.old) result self.new }
         ensures memory { result ≡ Err (Memory the_refusal) → IsOk (spec.site kind place self.old) }
     {
         if self.sites.len() >= MOST_SITES {
@@ -72,8 +69,8 @@ impl Typer {
 
     /// A point, by its id.
     #[tactic(auto, using(crate::proofs::Rows::one_point_more), unfolding(crate::specs::Steps::point))]
-    pub fn point(&mut self, place: Place) -> Result<u32, TypeFault>
-        ensures taken { Takes (spec.point place self.old) result self.new }
+    pub fn point(&mut self, place: Place) -> Made<u32>
+        ensures taken { TypingTakes (spec.point place self.old) result self.new }
         ensures memory { result ≡ Err (Memory the_refusal) → IsOk (spec.point place self.old) }
     {
         if self.points.len() >= MOST_SITES {
@@ -87,8 +84,8 @@ impl Typer {
 
     /// What a name denotes.
     #[tactic(auto, unfolding(crate::specs::Steps::find))]
-    pub fn find(&mut self, name: &Name) -> Result<Denotation, TypeFault>
-        ensures { Takes (spec.find name.now self.old) result self.new }
+    pub fn find(&mut self, name: &Name) -> Made<Denotation>
+        ensures { TypingTakes (spec.find name.now self.old) result self.new }
     {
         fold_into(&mut self.key, name.text)?;
         let denotation = placed(self.scopes.find(&self.key), name.place)?;
@@ -99,8 +96,8 @@ impl Typer {
     /// A variable may be changed, if it isn't the control variable of a for statement round the place (6.8.3.9); else
     /// it is K5 at its name. One of a block round this block is no control variable from here on.
     #[tactic(auto, unfolding(crate::specs::Steps::may_change))]
-    pub fn may_change(&mut self, place: Place, root: u32) -> Result<(), TypeFault>
-        ensures taken { Takes (spec.may_change place root self.old) result self.new }
+    pub fn may_change(&mut self, place: Place, root: u32) -> Made<()>
+        ensures taken { TypingTakes (spec.may_change place root self.old) result self.new }
         ensures memory { result ≡ Err (Memory the_refusal) → IsOk (spec.may_change place root self.old) }
     {
         if self.is_control(root) {
@@ -117,7 +114,7 @@ impl Typer {
     }
 
     // A variable is no control variable from here on, if it is one of a block round this block.
-    fn threaten(&mut self, root: u32) -> Result<(), TypeFault>
+    fn threaten(&mut self, root: u32) -> Made<()>
         ensures { MatchResult result (λ _. self.new ≡ spec.with_threatened root self.old)
             (λ why. why ≡ Memory the_refusal) }
     {
@@ -140,7 +137,7 @@ impl Typer {
     /// A variable may be a control variable: one of the variable declaration part of the block that no routine of the
     /// block changes (6.8.3.9); else it is K5 at its name.
     #[tactic(auto, unfolding(crate::specs::Steps::may_control))]
-    pub fn may_control(&self, place: Place, root: u32) -> Result<(), TypeFault>
+    pub fn may_control(&self, place: Place, root: u32) -> Made<()>
         ensures { Tells (spec.may_control place root self.now) result self.now }
     {
         if !self.is_local(root) || self.threatened.contains(&root) {
@@ -164,8 +161,8 @@ impl Typer {
 
     /// The statement of a for begins, of this control variable.
     #[tactic(auto, unfolding(crate::specs::Steps::begin_control))]
-    pub fn begin_control(&mut self, root: u32) -> Result<(), TypeFault>
-        ensures { Takes (spec.begin_control root self.old) result self.new }
+    pub fn begin_control(&mut self, root: u32) -> Made<()>
+        ensures { TypingTakes (spec.begin_control root self.old) result self.new }
     {
         self.controls.push(root)?;
         Ok(())
@@ -181,8 +178,8 @@ impl Typer {
 
     /// Begins the region of the required identifiers, which stands round the program (6.2.2.10).
     #[tactic(auto, unfolding(crate::specs::Steps::open_required, crate::specs::Names::required_region))]
-    pub fn open_required(&mut self) -> Result<(), TypeFault>
-        ensures { Takes (spec.open_required self.old) result self.new }
+    pub fn open_required(&mut self) -> Made<()>
+        ensures { TypingTakes (spec.open_required self.old) result self.new }
     {
         self.scopes.open_defined(self.alloc, &REQUIRED)?;
         Ok(())
@@ -190,8 +187,8 @@ impl Typer {
 
     /// Begins the region of a block that defines these names, which are in small letters.
     #[tactic(auto, unfolding(crate::specs::Steps::open_block))]
-    pub fn open_block(&mut self, names: &[Vec<u8>]) -> Result<(), TypeFault>
-        ensures { Takes (spec.open_block (map (λ name. name.items) names.now) self.old) result self.new }
+    pub fn open_block(&mut self, names: &[Vec<u8>]) -> Made<()>
+        ensures { TypingTakes (spec.open_block (map (λ name. name.items) names.now) self.old) result self.new }
     {
         self.scopes.open(self.alloc, names)?;
         Ok(())
@@ -207,9 +204,9 @@ impl Typer {
 
     /// Passes the definition of a name of the innermost block.
     #[tactic(auto, unfolding(crate::specs::Steps::declare))]
-    pub fn declare(&mut self, name: &Name, denotation: Denotation) -> Result<(), TypeFault>
+    pub fn declare(&mut self, name: &Name, denotation: Denotation) -> Made<()>
         requires known { Knows self.old.regions (folded name.now.text.now) }
-        ensures { Takes (spec.declare name.now denotation self.old) result self.new }
+        ensures { TypingTakes (spec.declare name.now denotation self.old) result self.new }
     {
         let key = folded(self.alloc, name.text)?;
         placed(self.scopes.declare(key, denotation), name.place)
@@ -228,7 +225,7 @@ impl Typer {
 
     /// What uses a file needs it as a program parameter; K8 at the place where it is none.
     #[tactic(auto, unfolding(crate::specs::Steps::wants_file))]
-    pub fn wants_file(&self, file: File, place: Place) -> Result<(), TypeFault>
+    pub fn wants_file(&self, file: File, place: Place) -> Made<()>
         ensures { Tells (spec.wants_file file place self.now) result self.now }
     {
         let given = match file {

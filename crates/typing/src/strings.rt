@@ -7,34 +7,27 @@ ghost use Rattle.typed_tree.specs.WellFormed.{is_character};
 ghost use Rattle.typing.specs.Apostrophes.{BeginsWith, closed};
 ghost use Rattle.typing.specs.Strings.{characters, characters_behind, string_characters};
 
-use crate::denoters::value_of;
-use crate::typer::Typer;
+use crate::{Made, Typer, value_of};
 use place::Place;
 use scopes::Denotation;
 use std::alloc::{AllocError, Global};
-use typed_tree::fault::TypeFault;
+use typed_tree::TypeFault;
 use types::{TypeForm, TypeId, TypeTable};
 
 impl Typer {
-    ghost use Rattle.typing.specs.Outcomes.{Takes, Makes};
+    ghost use Rattle.typing.specs.Outcomes.{TypingTakes, Makes};
     ghost use Rattle.typing.specs.Steps as step;
     ghost use Rattle.typing.specs.Strings as spec;
 
     /// The type of a string of so many characters, of its own: packed array [1..length] of char (6.4.3.2). Y2 at the
     /// place where it has too many.
     #[tactic(auto, unfolding(crate::specs::Strings::string_type))]
-    pub fn string_type(&mut self, place: Place, length: usize) -> Result<TypeId, TypeFault>
-        ensures { Takes (spec.string_type place length self.old) result self.new }
+    pub fn string_type(&mut self, place: Place, length: usize) -> Made<TypeId>
+        ensures { TypingTakes (spec.string_type place length self.old) result self.new }
     {
+        let (host, first) = (TypeTable::INTEGER, 1);
         let last = value_of(length, place)?;
-        let index = self.add_type(
-            place,
-            TypeForm::Subrange {
-                host: TypeTable::INTEGER,
-                first: 1,
-                last,
-            },
-        )?;
+        let index = self.add_type(place, TypeForm::Subrange { host, first, last })?;
         self.add_type(
             place,
             TypeForm::Array {
@@ -47,7 +40,7 @@ impl Typer {
 
     /// The characters that have a number.
     #[tactic(auto, unfolding(crate::specs::Steps::text_at))]
-    pub fn text_at(&self, number: usize) -> Result<Vec<u8>, TypeFault>
+    pub fn text_at(&self, number: usize) -> Made<Vec<u8>>
         ensures { Makes (λ text. text.items) (λ text. []) (step.text_at number self.now) result self.now }
     {
         match self.texts.get(number) {
@@ -58,12 +51,8 @@ impl Typer {
 
     // What a constant is, by the characters of its string.
     #[tactic(auto, unfolding(crate::specs::Strings::string_constant))]
-    pub(crate) fn string_constant(
-        &mut self,
-        place: Place,
-        characters: Vec<u8>,
-    ) -> Result<Denotation, TypeFault>
-        ensures { Takes (spec.string_constant place characters.items self.old) result self.new }
+    pub(crate) fn string_constant(&mut self, place: Place, characters: Vec<u8>) -> Made<Denotation>
+        ensures { TypingTakes (spec.string_constant place characters.items self.old) result self.new }
     {
         if let [character] = characters.as_slice() {
             return Ok(Denotation::Constant {
@@ -78,8 +67,8 @@ impl Typer {
 
     // These characters get the next number.
     #[tactic(auto, unfolding(crate::specs::Steps::keep_text))]
-    fn keep_text(&mut self, characters: Vec<u8>) -> Result<usize, TypeFault>
-        ensures { Takes (step.keep_text characters.items self.old) result self.new }
+    fn keep_text(&mut self, characters: Vec<u8>) -> Made<usize>
+        ensures { TypingTakes (step.keep_text characters.items self.old) result self.new }
     {
         let number = self.texts.len();
         self.texts.push(characters)?;
@@ -89,7 +78,7 @@ impl Typer {
 
 /// The characters of a string between its apostrophes, two of which stand for one (6.1.7). There are one or more, each
 /// of type char; K1 at the place where the text is no such string.
-pub fn characters(alloc: Global, place: Place, text: &[u8]) -> Result<Vec<u8>, TypeFault>
+pub fn characters(alloc: Global, place: Place, text: &[u8]) -> Made<Vec<u8>>
     ensures { MatchResult result
         (λ made. string_characters place text.now ≡ Ok made.items)
         (λ why. (why ≡ Memory the_refusal) ⊎ (string_characters place text.now ≡ Err why)) }

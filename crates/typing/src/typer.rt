@@ -7,16 +7,14 @@ ghost use Rattle.typing.specs.Sound.{stands};
 ghost use Rattle.typing.specs.View.{headed_of, enclosing_of, record_of};
 ghost use Rattle.typing.specs.declared.typer.TheConstants.{MOST_SITES, MOST_ENTRIES, MOST_NUMBERED};
 
-use crate::blocks::{EnclosingBlock, PassedHeading};
-use crate::records::OpenRecord;
+use crate::blocks::PassedHeading;
+use crate::{EnclosingBlock, OpenRecord};
 use indexmap::IndexSet;
 use place::Place;
 use scopes::Scopes;
 use std::alloc::Global;
 use std::marker::Model;
-use typed_tree::fault::TypeFault;
-use typed_tree::site::{Point, Site};
-use typed_tree::tree::{Block, Loop, Tree, Variable};
+use typed_tree::{Block, Loop, Point, Site, Tree, TypeFault, Variable};
 use types::TypeTable;
 
 /// The most sites, and the most points, of a program.
@@ -30,6 +28,9 @@ pub const MOST_NUMBERED: usize = 1_000_000;
 
 /// The most statements and expressions of a program.
 pub const MOST_ENTRIES: u32 = 4_000_000;
+
+/// What is made of a form of the syntax tree, or the first rule of names and types that it breaks.
+pub type Made<T> = Result<T, TypeFault>;
 
 /// What is known at a place of a program while it is typed.
 #[derive(Drop)]
@@ -105,7 +106,7 @@ impl Typer {
     ghost use Rattle.typing.specs.Sound.{IsLeft};
 
     /// What is known before a program, whose first token that the tree tells stands at `start`.
-    pub fn new(alloc: Global, start: Place) -> Result<Typer, TypeFault>
+    pub fn new(alloc: Global, start: Place) -> Made<Typer>
         ensures { MatchResult result (λ typer. typer ≡ begins start) (λ fault. fault ≡ Memory the_refusal) }
     {
         let mut headings = Vec::new(alloc);

@@ -3,17 +3,16 @@ ghost use Rattle.typing.specs.Blocks.{place_of};
 ghost use Rattle.typed_tree.specs.WellFormed.{is_one_of};
 ghost use Rattle.typing.specs.Routines.{first_waiting};
 
-use crate::names::fold_into;
-use crate::typer::Typer;
+use crate::{Made, Typer, fold_into};
 use indexmap::IndexMap;
 use place::Place;
 use scopes::Denotation;
 use syntax_tree::Name;
-use typed_tree::fault::TypeFault;
+use typed_tree::TypeFault;
 use types::TypeId;
 
 impl Typer {
-    ghost use Rattle.typing.specs.Outcomes.{Takes, Tells};
+    ghost use Rattle.typing.specs.Outcomes.{TypingTakes, Tells};
     ghost use Rattle.typing.specs.Routines as spec;
     ghost use Rattle.typing.specs.Statements as statements;
     ghost use Rattle.typing.specs.Steps as step;
@@ -21,8 +20,8 @@ impl Typer {
     /// The block of a function, or of a procedure, of this name, if the block round the place declared it with the
     /// directive forward and its block didn't come yet (6.6.1, 6.6.2).
     #[tactic(auto, unfolding(crate::specs::Routines::waiting_for))]
-    pub fn waiting_for(&mut self, is_function: bool, name: &Name) -> Result<Option<u32>, TypeFault>
-        ensures { Takes (spec.waiting_for is_function name.now self.old) result self.new }
+    pub fn waiting_for(&mut self, is_function: bool, name: &Name) -> Made<Option<u32>>
+        ensures { TypingTakes (spec.waiting_for is_function name.now self.old) result self.new }
     {
         fold_into(&mut self.key, name.text)?;
         let says = self.scopes.innermost_says(&self.key);
@@ -50,8 +49,8 @@ impl Typer {
     }
 
     /// A routine of the block waits for its block, by the place of its name, or no longer.
-    pub fn told_waiting(&mut self, number: u32, place: Option<Place>) -> Result<(), TypeFault>
-        ensures { Takes (spec.told_waiting number place self.old) result self.new }
+    pub fn told_waiting(&mut self, number: u32, place: Option<Place>) -> Made<()>
+        ensures { TypingTakes (spec.told_waiting number place self.old) result self.new }
     {
         self.enclosing.waiting.insert(number, place)?;
         Ok(())
@@ -59,7 +58,7 @@ impl Typer {
 
     /// No routine of the block waits: K9 at the name of the first that does.
     #[tactic(auto, unfolding(crate::specs::Routines::all_came, crate::specs::Steps::enclosing_now))]
-    pub fn all_came(&self) -> Result<(), TypeFault>
+    pub fn all_came(&self) -> Made<()>
         ensures { Tells (spec.all_came self.now) result self.now }
     {
         match first_waiting(&self.enclosing.waiting) {
@@ -70,8 +69,8 @@ impl Typer {
 
     /// The variable that is assigned by the name of a function, which is its result, inside its block alone (6.8.2.2):
     /// K2 at the place elsewhere, and where the routine is a procedure.
-    pub fn function_target(&mut self, place: Place, block: u32) -> Result<(u32, TypeId), TypeFault>
-        ensures { Takes (statements.function_target place block self.old) result self.new }
+    pub fn function_target(&mut self, place: Place, block: u32) -> Made<(u32, TypeId)>
+        ensures { TypingTakes (statements.function_target place block self.old) result self.new }
     {
         let root = self
             .result_inside(block)

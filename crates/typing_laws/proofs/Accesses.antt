@@ -66,7 +66,8 @@ use Rattle.typing_laws.proofs.Reached.{as_far, get_mapped, mapped_get}
 use Rattle.typing_laws.proofs.Opened.{bare_record, open_in, stands_there}
 use Rattle.typing_laws.proofs.Sound.{IsField, IsRecord, IsVariable, variable_later}
 use Rattle.typing_laws.proofs.Strings.{fit_is, there}
-use Rattle.typing_laws.proofs.Steps.{Does, Nothing, joins, quietly, last, checks, sited, mark_does, pass_does, pure_does, by_types_does, fail_does, enter_does}
+use Rattle.typing_laws.proofs.Steps.{PassingDoes, Nothing, joins, quietly, last, checks, sited, mark_does, pass_does, pure_does, by_types_does, fail_does}
+use Rattle.typing_laws.proofs.Steps.{enter_does}
 use Rattle.typing_laws.proofs.Steps.{host_type_does, site_does, led, IsFound, IsKnown, answered, behind_does, silent_leaves}
 use Rattle.typing_laws.proofs.Tables.{AreLawful, stands_longer, is_ordinal_longer, is_structured_longer, cells_of_longer, element_of_longer, field_of_longer}
 use Rattle.typing_laws.proofs.Tables.{form_at_longer, has_kind, held_scalar, kind_longer, lying_longer, ordinal_held}
@@ -330,7 +331,7 @@ module _ (here : Here) where
   -- ---- indexes
 
   index_does : {least : Reached} (e : ArrayElement) (places : List Place) (w : Written) → LawfulWritten here places w
-      → Does here least (Covers 0 places) (index e w) (λ id now. id < now.sites)
+      → PassingDoes here least (Covers 0 places) (index e w) (λ id now. id < now.sites)
   unfolding index
   index_does e places w law =
       joins (covers_test here kind.Index (omega arith) (omega arith) places w law) (site_does kind.Index w.first) λ id now _ known.
@@ -352,7 +353,7 @@ module _ (here : Here) where
 
   pub selected_does : {least : Reached} (origin : Origin) (before : List TreeSelector) (id : TypeId) (selectors : List Selector) (rows : List (List Place))
       (ws : List Written) → AreLawfulRows rows ws → LeadsTo origin before id least
-      → Does here least (Covers 0 (selector_places selectors rows)) (selected before id selectors ws) (Selects origin)
+      → PassingDoes here least (Covers 0 (selector_places selectors rows)) (selected before id selectors ws) (Selects origin)
   selected_does {least} origin before id [] rows ws laws l =
       sited (λ sites none. subst (Covers 0 (joined_places rows)) (sym none) (covers_none 0 (joined_places rows)))
       (pure_does (before, id) (λ n h. leads_later origin before id least n h l))
@@ -407,7 +408,7 @@ module _ (here : Here) where
     };
   }
 
-  record_at_does : {least : Reached} (slot : ℕ) → Does here least Nothing (record_at slot) (λ found now. slice_get here.records slot ≡ found)
+  record_at_does : {least : Reached} (slot : ℕ) → PassingDoes here least Nothing (record_at slot) (λ found now. slice_get here.records slot ≡ found)
   unfolding record_at
   record_at_does slot = record {
     does = λ s a is fine h.
@@ -417,7 +418,7 @@ module _ (here : Here) where
   }
 
   -- a variable, or a field of a record that is open
-  pub variable_does : {least : Reached} (place : Place) (d : Denotation) → IsFound here d least → Does here least Nothing (variable_of place d) IsDenoted
+  pub variable_does : {least : Reached} (place : Place) (d : Denotation) → IsFound here d least → PassingDoes here least Nothing (variable_of place d) IsDenoted
   variable_does {least} place (denotes.Variable root type_id) sound =
       pure_does (entire root type_id) (λ n h. denoted_later (entire root type_id) least n h (entire_denoted root type_id least sound.0 sound.1))
   variable_does {least} place (denotes.Field slot position offset type_id) sound =
@@ -458,7 +459,7 @@ module _ (here : Here) where
   abbrev pub IsOfKind : TypeId → Option TypeKind → Reached → Type 0
   IsOfKind id found now = AreLawful now.types × (kind_of now.types id ≡ found)
 
-  pub kind_now_does : {least : Reached} (id : TypeId) → Does here least Nothing (kind_now id) (IsOfKind id)
+  pub kind_now_does : {least : Reached} (id : TypeId) → PassingDoes here least Nothing (kind_now id) (IsOfKind id)
   unfolding kind_now
   kind_now_does id = answered (λ found now is. (is.0, out now found is.1)) (by_types_does (λ types. Ok (kind_of types id)))
     where
@@ -536,7 +537,7 @@ module _ (here : Here) where
 
   ordinal_value_does : {least : Reached} (origin : Origin) (selectors : List TreeSelector) (id : TypeId) (defined : ℕ) (lead : Option ℕ)
       → LeadsTo origin selectors id least → holds least.types scalar.Ordinal id ≡ true → defined < least.sites → IsKnown lead least
-      → Does here least Nothing (ordinal_value origin selectors id defined lead) Types
+      → PassingDoes here least Nothing (ordinal_value origin selectors id defined lead) Types
   unfolding ordinal_value
   ordinal_value_does {least} origin selectors id defined lead l held test known =
       quietly (mark_does (Value origin selectors (index_count selectors) scalar.Ordinal defined) refl refl refl
@@ -548,7 +549,7 @@ module _ (here : Here) where
 
   set_value_does : {least : Reached} (base : SetBase) (origin : Origin) (selectors : List TreeSelector) (id : TypeId) (defined : ℕ) (lead : Option ℕ)
       → LeadsTo origin selectors id least → holds least.types scalar.Set id ≡ true → defined < least.sites → IsKnown lead least
-      → Does here least Nothing (set_value base origin selectors id defined lead) Types
+      → PassingDoes here least Nothing (set_value base origin selectors id defined lead) Types
   unfolding set_value
   set_value_does {least} base origin selectors id defined lead l held test known =
       quietly (mark_does (Value origin selectors (index_count selectors) scalar.Set defined) refl refl refl
@@ -559,7 +560,7 @@ module _ (here : Here) where
 
   whole_value_does : {least : Reached} (origin : Origin) (selectors : List TreeSelector) (id : TypeId) (defined : ℕ) (lead : Option ℕ)
       → LeadsTo origin selectors id least → is_structured least.types id ≡ true → defined < least.sites → IsKnown lead least
-      → Does here least Nothing (whole_value origin selectors id defined lead) Types
+      → PassingDoes here least Nothing (whole_value origin selectors id defined lead) Types
   unfolding whole_value
   whole_value_does {least} origin selectors id defined lead l structured test known =
       quietly (by_types_does (λ types. Ok (cells_of types id))) λ cells now one is.
@@ -588,7 +589,7 @@ module _ (here : Here) where
 
   value_does : {least : Reached} (found : Option TypeKind) (origin : Origin) (selectors : List TreeSelector) (id : TypeId) (defined : ℕ) (lead : Option ℕ)
       → LeadsTo origin selectors id least → kind_of least.types id ≡ found → defined < least.sites → IsKnown lead least
-      → Does here least Nothing (value_of_kind found origin selectors id defined lead) Types
+      → PassingDoes here least Nothing (value_of_kind found origin selectors id defined lead) Types
   value_does (Some kind_of_type.Structured) origin selectors id defined lead l is test known =
       whole_value_does origin selectors id defined lead l (ap is_structured_kind is) test known
   value_does (Some (kind_of_type.Set base members)) origin selectors id defined lead l is test known =
@@ -600,7 +601,7 @@ module _ (here : Here) where
   pub accessed_does : {least : Reached} (variable : Denoted) (selectors : List Selector) (rows : List (List Place)) (ws : List Written)
       (place : Place) (lead : Option SiteKind)
       → IsLed lead → AreLawfulRows rows ws → IsDenoted variable least
-      → Does here least (Covers 2 (place ∷ selector_places selectors rows)) (accessed variable selectors ws place lead) Types
+      → PassingDoes here least (Covers 2 (place ∷ selector_places selectors rows)) (accessed variable selectors ws place lead) Types
   unfolding accessed
   accessed_does {least} variable selectors rows ws place lead is laws denoted =
       let origin = variable.origin in

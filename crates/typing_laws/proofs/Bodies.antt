@@ -39,7 +39,7 @@ use Rattle.typing_laws.proofs.Sound.{among_more}
 use Rattle.typing_laws.proofs.Sound.{or_right}
 use Rattle.typing.proofs.Ways.{Stay}
 use Rattle.typing_laws.proofs.Went.{Grows, as_high, grow_then, grows, inner as inner_of, same_controls}
-use Rattle.typing_laws.proofs.Steps.{Does, Anything, Nothing, no_sites, silent_leaves, last as last_does, pure_does, quietly, site_does, sited, split_if}
+use Rattle.typing_laws.proofs.Steps.{PassingDoes, Anything, Nothing, no_sites, silent_leaves, last as last_does, pure_does, quietly, site_does, sited, split_if}
 use Rattle.typing_laws.proofs.Tables.{cells_in}
 use Rattle.typing_laws.proofs.Waiting.{count_append, count_of, one_if, is_place, told_of_it, told_of_others, waits_in}
 use Rattle.typing_laws.specs.Controls.{AreUnthreatened, Each, in_blocks, mark_changes, mark_controls}
@@ -254,7 +254,7 @@ forward_builds here under b place old now a st begins is = by b.is_first begins 
 
 -- ---- the end of a block
 
-is_assigned_does : {here : Here} {least : Reached} (place : Place) (root : ℕ) → Does here least Nothing (is_assigned place root) Anything
+is_assigned_does : {here : Here} {least : Reached} (place : Place) (root : ℕ) → PassingDoes here least Nothing (is_assigned place root) Anything
 unfolding is_assigned
 is_assigned_does place root = record {
   does = λ s a is fine h.
@@ -267,7 +267,7 @@ abbrev EndsWith : Option ℕ → Option FunctionResult → Reached → Type 0
 EndsWith root result now = (option_map (λ (r : FunctionResult). r.root) result ≡ root) × HasSite now.sites result
 
 result_does : {here : Here} {least : Reached} (name end : Place) (root : Option ℕ)
-    → Does here least (Covers 0 (end ∷ [])) (result_at_end name end root) (EndsWith root)
+    → PassingDoes here least (Covers 0 (end ∷ [])) (result_at_end name end root) (EndsWith root)
 unfolding result_at_end
 result_does name end None =
     sited (λ sites none. subst (Covers 0 (end ∷ [])) (sym none) (covers_none 0 (end ∷ []))) (pure_does None (λ n h. (refl, tt)))

@@ -44,7 +44,7 @@ use Rattle.typing_laws.proofs.Reached.{get_mapped, mapped_longer, stands_later}
 use Rattle.typing_laws.proofs.Grown.{heads_of, FitsHeading, both_true}
 use Rattle.typing_laws.proofs.Sound.{IsRoutine, routine_longer}
 use Rattle.typing_laws.proofs.Strings.{there}
-use Rattle.typing_laws.proofs.Steps.{Does, Anything, Nothing, IsSoundThen, joins, quietly, last, checks_types, sited, answered, pure_does, given_does}
+use Rattle.typing_laws.proofs.Steps.{PassingDoes, Anything, Nothing, IsSoundThen, joins, quietly, last, checks_types, sited, answered, pure_does, given_does}
 use Rattle.typing_laws.proofs.Steps.{fail_does, mark_does, pass_does, enter_does, site_does, host_type_does, heading_at_does, variable_at_does, led}
 use Rattle.typing_laws.proofs.Steps.{IsKnown, behind_does, split}
 use Rattle.typing_laws.proofs.Tables.{has_kind, is_structured_longer, kind_longer}
@@ -178,7 +178,7 @@ module _ (here : Here) where
 
   ordinal_does : {least : Reached} (w : Written) (places : List Place) (callee position : ℕ) (formal : Variable) → LawfulWritten here places w
       → IsFormalAt least callee position formal → is_value_kind formal.kind ≡ true → holds least.types scalar.Ordinal formal.type_id ≡ true
-      → Does here least (Covers 0 places) (passed_ordinal formal.type_id w callee position) Anything
+      → PassingDoes here least (Covers 0 places) (passed_ordinal formal.type_id w callee position) Anything
   unfolding passed_ordinal
   ordinal_does {least} w places callee position formal law at by_value held =
       joins (covers_test here kind.Subrange (omega arith) (omega arith) places w law) (site_does kind.Subrange w.first) λ site now one known.
@@ -212,7 +212,7 @@ module _ (here : Here) where
 
   set_does : {least : Reached} (w : Written) (places : List Place) (callee position : ℕ) (formal : Variable) → LawfulWritten here places w
       → IsFormalAt least callee position formal → is_value_kind formal.kind ≡ true → holds least.types scalar.Set formal.type_id ≡ true
-      → Does here least (Covers 0 places) (passed_set formal.type_id w callee position) Anything
+      → PassingDoes here least (Covers 0 places) (passed_set formal.type_id w callee position) Anything
   unfolding passed_set
   set_does {least} w places callee position formal law at by_value held =
       last (sited (covers_any 2 places) (checks_types {L = IsMembersTest formal.type_id} (law.types least (Some kind.SetMember) (omega arith))
@@ -235,7 +235,7 @@ module _ (here : Here) where
 
   whole_does : {least : Reached} (w : Written) (places : List Place) (callee position : ℕ) (formal : Variable) → LawfulWritten here places w
       → IsFormalAt least callee position formal → is_value_kind formal.kind ≡ true → is_structured least.types formal.type_id ≡ true
-      → Does here least (Covers 0 places) (passed_whole formal.type_id w callee position) Anything
+      → PassingDoes here least (Covers 0 places) (passed_whole formal.type_id w callee position) Anything
   unfolding passed_whole
   whole_does {least} w places callee position formal law at by_value structured =
       last (sited (covers_any 2 places) (checks_types {L = λ copy n. IsCopyFor n.types formal.type_id copy} (law.types least None tt)
@@ -249,14 +249,14 @@ module _ (here : Here) where
 
   value_does : {least : Reached} (w : Written) (places : List Place) (callee position : ℕ) (formal : Variable) → LawfulWritten here places w
       → IsFormalAt least callee position formal → is_value_kind formal.kind ≡ true
-      → Does here least (Covers 0 places) (passed_value formal.type_id w callee position) Anything
+      → PassingDoes here least (Covers 0 places) (passed_value formal.type_id w callee position) Anything
   unfolding passed_value
   value_does {least} w places callee position formal law at is =
       quietly (kind_now_does here formal.type_id) λ found now more of_kind.
       by now found (formal_later least now callee position formal more at) of_kind.1
     where
       by : (now : Reached) (found : Option TypeKind) → IsFormalAt now callee position formal → kind_of now.types formal.type_id ≡ found
-          → Does here now (Covers 0 places) (passed_by_kind found formal.type_id w callee position) Anything
+          → PassingDoes here now (Covers 0 places) (passed_by_kind found formal.type_id w callee position) Anything
       by now (Some kind_of_type.Structured) at h = whole_does w places callee position formal law at is (ap is_structured_kind h)
       by now (Some (kind_of_type.Set base members)) at h = set_does w places callee position formal law at is (ap (is_held_by scalar.Set) h)
       by now (Some (kind_of_type.Ordinal range)) at h = ordinal_does w places callee position formal law at is (ap (is_held_by scalar.Ordinal) h)
@@ -266,17 +266,17 @@ module _ (here : Here) where
 
   passed_does : {least : Reached} (w : Written) (places : List Place) (callee position : ℕ) (formal : Variable) → LawfulWritten here places w
       → IsFormalAt least callee position formal → is_parameter_kind formal.kind ≡ true
-      → Does here least (Covers 0 places) (passed_to (Some formal) w callee position) Anything
+      → PassingDoes here least (Covers 0 places) (passed_to (Some formal) w callee position) Anything
   passed_does {least} w places callee position formal law at is = by (is_variable_kind formal.kind) refl
     where
       by : (test : Bool) → is_variable_kind formal.kind ≡ test
-          → Does here least (Covers 0 places)
+          → PassingDoes here least (Covers 0 places)
           ((if test then w.passing formal.type_id else passed_value formal.type_id w) callee position) Anything
       by true h = sited (covers_any 2 places) (law.passes least callee position formal at h)
       by false h = value_does w places callee position formal law at (by_value (is_value_kind formal.kind) (is_variable_kind formal.kind) is h)
 
   actual_does : {least : Reached} (a : WrittenActual) (places : List Place) (root callee position : ℕ) → LawfulActual places a
-      → IsParameterAt least callee position root → Does here least (Covers 0 places) (actual a root callee position) Anything
+      → IsParameterAt least callee position root → PassingDoes here least (Covers 0 places) (actual a root callee position) Anything
   unfolding actual
   actual_does {least} a places root callee position law p =
       sited (λ sites has. subst (λ l. Covers 0 l sites) (sym law.places_are) (covers_more 0 law.of_value law.of_width sites has))
@@ -284,12 +284,12 @@ module _ (here : Here) where
       quietly (variable_at_does root) λ found now two is.
       let parameter = parameter_later least now callee position root (further_still one two) p in
       let formal_found : Some parameter.formal ≡ found = sym parameter.is_there ∙ is in
-      subst (λ f. Does here now (Covers 0 law.of_value) (passed_to f a.value callee position) Anything) formal_found
+      subst (λ f. PassingDoes here now (Covers 0 law.of_value) (passed_to f a.value callee position) Anything) formal_found
       (passed_does a.value law.of_value callee position parameter.formal law.value parameter.at parameter.is_parameter))
 
   actuals_do : {least : Reached} (roots : List ℕ) (actuals : List WrittenActual) (rows : List (List Place)) (callee position : ℕ)
       → AreLawfulActuals rows actuals → AreParametersAt least callee position roots
-      → Does here least (Covers 0 (joined_places rows)) (actuals_for roots actuals callee position) Anything
+      → PassingDoes here least (Covers 0 (joined_places rows)) (actuals_for roots actuals callee position) Anything
   actuals_do [] actuals rows callee position laws all =
       sited (λ sites none. subst (Covers 0 (joined_places rows)) (sym none) (covers_none 0 (joined_places rows))) (pure_does {K = Anything} tt (λ n h. tt))
   actuals_do (root ∷ roots) [] rows callee position laws all =
@@ -371,7 +371,7 @@ module _ (here : Here) where
 
   pub routine_call_does : {least : Reached} (is_function : Bool) (callee : ℕ) (place : Place) (actuals : List WrittenActual) (rows : List (List Place))
       → IsRoutine here (heads_of least) callee is_function → StandsIn here least → AreLawfulActuals rows actuals
-      → Does here least (Covers 0 (joined_places rows)) (routine_call is_function callee place actuals) Anything
+      → PassingDoes here least (Covers 0 (joined_places rows)) (routine_call is_function callee place actuals) Anything
   unfolding routine_call
   routine_call_does {least} is_function callee place actuals rows routine stands laws =
       let may = may_call_it least is_function callee routine in
@@ -388,14 +388,14 @@ module _ (here : Here) where
       (λ o h. called_formed least is_function callee (length actuals) may stands as_many o (further_still seen h))) λ _ _ _ _.
       pure_does heading.result (λ n h. tt)
 
-  result_variable_does : {least : Reached} (root : Option ℕ) → Does here least Nothing (result_variable root) Anything
+  result_variable_does : {least : Reached} (root : Option ℕ) → PassingDoes here least Nothing (result_variable root) Anything
   result_variable_does None = pure_does None (λ n h. tt)
   result_variable_does (Some root) = answered (λ found now is. tt) (variable_at_does root)
 
   -- the value of a function
   pub function_does : {least : Reached} (callee : ℕ) (is_function : Bool) (place : Place) (actuals : List WrittenActual) (rows : List (List Place))
       (lead : Option SiteKind) → IsLed lead → IsRoutine here (heads_of least) callee is_function → StandsIn here least → AreLawfulActuals rows actuals
-      → Does here least (Covers 2 (place ∷ joined_places rows)) (function_value callee is_function place actuals lead) Types
+      → PassingDoes here least (Covers 2 (place ∷ joined_places rows)) (function_value callee is_function place actuals lead) Types
   unfolding function_value
   function_does callee false place actuals rows lead is routine stands laws = fail_does (fault.WrongParameters place)
   function_does {least} callee true place actuals rows lead is routine stands laws =

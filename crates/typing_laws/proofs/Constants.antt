@@ -28,7 +28,7 @@ use Rattle.typing.specs.Statements.{own_constant, case_constant, constant_row}
 use Rattle.typing_laws.proofs.Sound.{IsSound}
 use Rattle.typing_laws.proofs.Reached.{Head, Here, Reached}
 use Rattle.typing_laws.proofs.Grown.{heads_of, both_true}
-use Rattle.typing_laws.proofs.Steps.{Does, Nothing, IsSoundThen, quietly, checks, pass_does, pure_does, given_does, find_does}
+use Rattle.typing_laws.proofs.Steps.{PassingDoes, Nothing, IsSoundThen, quietly, checks, pass_does, pure_does, given_does, find_does}
 use Rattle.typing_laws.proofs.Strings.{fit_is, all_of_char, string_constant_does}
 
 abbrev pub IsWhole : ℤ → Type 0
@@ -89,7 +89,7 @@ module _ (here : Here) where
         let fit = fit_is (nat_le number 2147483647) place (denotes.Constant (pos number) integer) c is in
         subst (IsSound here variables types heads) fit.1 (number_whole number fit.0)
 
-  unsigned_does : {least : Reached} (v : ConstantValue) → Does here least Nothing (unsigned_constant v) (λ d now. IsSoundThen here d now)
+  unsigned_does : {least : Reached} (v : ConstantValue) → PassingDoes here least Nothing (unsigned_constant v) (λ d now. IsSoundThen here d now)
   unfolding unsigned_constant
   unsigned_does (value.Number number place) = checks (pass_does place) λ types _ c now _ is _.
       number_sound now.variables now.types (heads_of now) number place c is
@@ -99,12 +99,12 @@ module _ (here : Here) where
   unsigned_does (value.Name name) =
       checks (find_does name) λ types d c now _ is sound. subst (λ z. IsSoundThen here z now) (constant_is name.place d c is) sound.0
 
-  constant_does : {least : Reached} (c : Constant) → Does here least Nothing (constant c) (λ d now. IsSoundThen here d now)
+  constant_does : {least : Reached} (c : Constant) → PassingDoes here least Nothing (constant c) (λ d now. IsSoundThen here d now)
   unfolding constant
   constant_does c = checks (unsigned_does c.value) λ types unsigned made now _ is sound.
       behind_sound now.variables now.types (heads_of now) c.sign unsigned made is sound
 
-  ordinal_does : {least : Reached} (c : Constant) → Does here least Nothing (ordinal_constant c) (λ one now. IsWholeOrdinal one)
+  ordinal_does : {least : Reached} (c : Constant) → PassingDoes here least Nothing (ordinal_constant c) (λ one now. IsWholeOrdinal one)
   unfolding ordinal_constant
   ordinal_does c = checks (constant_does c) λ types d one now _ is sound. by now d one is sound
     where
@@ -115,14 +115,14 @@ module _ (here : Here) where
           let same : as_ordinal d ≡ one = cc in subst IsWholeOrdinal same (ordinal_whole now.variables now.types (heads_of now) d sound)
 
   case_constant_does : {least : Reached} (type_id : TypeId) (before : List ℤ) (c : Constant)
-      → Does here least Nothing (case_constant type_id before c) (λ value now. IsWhole value)
+      → PassingDoes here least Nothing (case_constant type_id before c) (λ value now. IsWhole value)
   unfolding case_constant
   case_constant_does type_id before c =
       checks (ordinal_does c) λ types one value now _ is whole. own_whole types type_id before (constant_place c) one value is whole
 
   -- those before an arm
   pub row_does : {least : Reached} (type_id : TypeId) (before row : List ℤ) (cs : List Constant) → list_all is_whole row ≡ true
-      → Does here least Nothing (constant_row type_id before row cs) (λ made now. list_all is_whole made ≡ true)
+      → PassingDoes here least Nothing (constant_row type_id before row cs) (λ made now. list_all is_whole made ≡ true)
   row_does type_id before row [] whole = pure_does row (λ n h. whole)
   row_does type_id before row (c ∷ cs) whole =
       quietly (case_constant_does type_id (before ++ row) c) λ value _ _ is.

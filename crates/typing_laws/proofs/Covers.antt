@@ -4,7 +4,7 @@ use Rattle.std.specs.List.{flat_map}
 use Rattle.std.proofs.lemmas.List.{map-append}
 use Rattle.place.specs.declared.Place.{Place}
 use Rattle.typed_tree.specs.declared.site.SiteKind.{SiteKind}
-use Rattle.typed_tree.specs.Sites.{number_of}
+use Rattle.typed_tree.specs.Sites.{code_of}
 use Rattle.typed_tree.specs.Ids.{Stands}
 
 -- a site, by its kind, or a point, and its place
@@ -29,13 +29,13 @@ points_among added = flat_map (λ one. point_of one.0 one.1) added
 -- kinds by their numbers, all above one
 abbrev pub AreAbove : ℕ → List SiteKind → Type 0
 AreAbove low [] = Unit {0}
-AreAbove low (kind ∷ others) = (low < number_of kind) × AreAbove (number_of kind) others
+AreAbove low (kind ∷ others) = (low < code_of kind) × AreAbove (code_of kind) others
 
 -- the same of the sites among sites and points
 abbrev pub Ascend : ℕ → List (Option SiteKind) → Type 0
 Ascend low [] = Unit {0}
 Ascend low (None ∷ others) = Ascend low others
-Ascend low (Some kind ∷ others) = (low < number_of kind) × Ascend (number_of kind) others
+Ascend low (Some kind ∷ others) = (low < code_of kind) × Ascend (code_of kind) others
 
 -- sites and points that all stand at one place
 abbrev pub group : Place → List (Option SiteKind) → List Stood
@@ -110,7 +110,7 @@ leads_more place kinds others places a b is more = (
 
 ascend_kinds : (low : ℕ) (kinds : List SiteKind) → AreAbove low kinds → Ascend low (map Some kinds)
 ascend_kinds low [] is = tt
-ascend_kinds low (kind ∷ kinds) is = (is.0, ascend_kinds (number_of kind) kinds is.1)
+ascend_kinds low (kind ∷ kinds) is = (is.0, ascend_kinds (code_of kind) kinds is.1)
 
 grouped : (place : Place) (kinds : List SiteKind) → at_place place kinds ≡ group place (map Some kinds)
 grouped place [] = refl
@@ -122,8 +122,8 @@ leads_covers low place kinds places sites ascending more =
     (map Some kinds, more.0, more.1 ∙ ap (λ l. l ++ more.0) (grouped place kinds), ascend_kinds low kinds ascending, more.2)
 
 -- a site before those of a first place, of a lower kind
-pub covers_ahead : (low : ℕ) (kind : SiteKind) → low < number_of kind → (place : Place) (places : List Place) (sites : List Stood)
-    → Covers (number_of kind) (place ∷ places) sites → Covers low (place ∷ places) ((Some kind, place) ∷ sites)
+pub covers_ahead : (low : ℕ) (kind : SiteKind) → low < code_of kind → (place : Place) (places : List Place) (sites : List Stood)
+    → Covers (code_of kind) (place ∷ places) sites → Covers low (place ∷ places) ((Some kind, place) ∷ sites)
 covers_ahead low kind is place places sites c = (
   Some kind ∷ c.0,
   c.1,
@@ -155,7 +155,7 @@ points_behind : (low : ℕ) (kinds : List SiteKind) (here : List (Option SiteKin
 points_behind low [] [] is points = tt
 points_behind low [] (None ∷ here) is points = points_behind low [] here tt points
 points_behind low [] (Some kind ∷ here) is points = absurd points
-points_behind low (kind ∷ kinds) here is points = (is.0, points_behind (number_of kind) kinds here is.1 points)
+points_behind low (kind ∷ kinds) here is points = (is.0, points_behind (code_of kind) kinds here is.1 points)
 
 -- points at a first place, and then what later places have
 pub points_first : (low : ℕ) (place : Place) (places : List Place) (a b : List Stood) → ArePointsAt place a → Covers 0 places b

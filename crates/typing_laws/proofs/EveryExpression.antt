@@ -15,7 +15,7 @@ use Rattle.typing_rules.specs.declared.typed.Typed.{Typed}
 use Rattle.typing.specs.Expressions.{Written, WrittenActual, WrittenLink, expression, written_actual, written_link, expression_step, actual_step, link_step}
 use Rattle.typing.specs.Expressions.{links, only, without_width}
 use Rattle.typing_laws.proofs.Covers.{Covers, covers_more}
-use Rattle.typing_laws.proofs.Steps.{Does, Anything, Nothing, sited}
+use Rattle.typing_laws.proofs.Steps.{PassingDoes, Anything, Nothing, sited}
 use Rattle.typing_laws.proofs.Reached.{Here, Reached}
 use Rattle.typing_laws.proofs.Leading.{LawfulWritten, LawfulLink, Types}
 use Rattle.typing_laws.proofs.Accesses.{AreLawfulRows}
@@ -75,17 +75,17 @@ module _ (here : Here) where
         types = λ least lead led.
             sited (λ sites has.
             covers_more 2 places [] sites (subst (λ p. Covers 2 p sites) (sym law.places_are) (covers_more 2 law.of_value law.of_width sites has)))
-            (subst (λ (z : Written). Does here least (Covers 2 law.of_value) (z.typing lead) Types) same (law.value.types least lead led));
+            (subst (λ (z : Written). PassingDoes here least (Covers 2 law.of_value) (z.typing lead) Types) same (law.value.types least lead led));
         passes = λ least callee position formal at is.
             sited (λ sites has.
             covers_more 2 places [] sites (subst (λ p. Covers 2 p sites) (sym law.places_are) (covers_more 2 law.of_value law.of_width sites has)))
-            (subst (λ (z : Written). Does here least (Covers 2 law.of_value) (z.passing formal.type_id callee position) Anything) same
+            (subst (λ (z : Written). PassingDoes here least (Covers 2 law.of_value) (z.passing formal.type_id callee position) Anything) same
             (law.value.passes least callee position formal at is));
         reads = λ least.
             sited (λ sites has.
             covers_more 2 places [] sites (subst (λ p. Covers 2 p sites) (sym law.places_are) (covers_more 2 law.of_value law.of_width sites has)))
-            (subst (λ (z : Written). Does here least (Covers 2 law.of_value) z.reading Anything) same (law.value.reads least));
-        names = λ least. subst (λ (z : Written). Does here least Nothing z.file Anything) same (law.value.names least);
+            (subst (λ (z : Written). PassingDoes here least (Covers 2 law.of_value) z.reading Anything) same (law.value.reads least));
+        names = λ least. subst (λ (z : Written). PassingDoes here least Nothing z.file Anything) same (law.value.names least);
       }
     where
       by : (value : Written) (width : Option Written) → without_width place value width ≡ Ok w → value ≡ w
@@ -107,7 +107,7 @@ module _ (here : Here) where
   bare_links ys = map (λ (y : WithLink). y.0) ys
 
   links_lawful : (ys : List WithLink) (now : Reached) (t : Typed) → Types t now
-      → Does here now (Covers 2 (joined_places (map link_places (bare_links ys)))) (links t (map written_link (bare_links ys))) Types
+      → PassingDoes here now (Covers 2 (joined_places (map link_places (bare_links ys)))) (links t (map written_link (bare_links ys))) Types
   links_lawful [] now t known = links_none here t known
   links_lawful (y ∷ ys) now t known =
       links_more here t (written_link y.0) (map written_link (bare_links ys)) (link_places y.0) (joined_places (map link_places (bare_links ys))) known y.1

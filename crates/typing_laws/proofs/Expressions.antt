@@ -49,7 +49,7 @@ use Rattle.typing_laws.proofs.Covers.{ArePointsAt, Covers, Leads, leads_first, n
 use Rattle.typing_laws.proofs.Grown.{both_true}
 use Rattle.typing_laws.proofs.Strings.{AreOfChar, fit_is, all_of_char, no_characters, char_whole, string_type_does, there as is_there}
 use Rattle.typing_laws.proofs.Tables.{is_string_longer}
-use Rattle.typing_laws.proofs.Steps.{Does, Anything, Nothing, IsFound, joins, quietly, last, checks, sited, mark_does, change_does, text_at_does}
+use Rattle.typing_laws.proofs.Steps.{PassingDoes, Anything, Nothing, IsFound, joins, quietly, last, checks, sited, mark_does, change_does, text_at_does}
 use Rattle.typing_laws.proofs.Steps.{pass_does, pure_does, given_does, by_types_does, fail_does, find_does, enter_does, may_change_does, led, IsKnown}
 use Rattle.typing_laws.proofs.Steps.{behind_does, point_does, split, wants_file_does}
 use Rattle.typing_laws.proofs.Leading.{IsLed, Types, led_alone, known_later, ordinal_types, IsFormalAt, formal_later, formal_is, lt_true, LawfulWritten}
@@ -68,7 +68,7 @@ module _ (here : Here) where
       no_variable_lawful here (place ∷ []) [] place _ refl
       (λ least lead is. led_covers here 2 place [] (led lead) (led_alone lead is) (by least lead))
     where
-      by : (least : Reached) (lead : Option SiteKind) → Does here least (Leads place (led lead) []) (number value place lead) Types
+      by : (least : Reached) (lead : Option SiteKind) → PassingDoes here least (Leads place (led lead) []) (number value place lead) Types
       by least lead =
           quietly (pass_does place) λ _ _ _ _.
           quietly (given_does (value_of value place)) λ v _ _ is.
@@ -79,7 +79,7 @@ module _ (here : Here) where
 
   -- two or more characters
   text_does : (place : Place) (id : Option ℕ) {least : Reached} (cs : List ℕ) → IsKnown id least → 1 < length cs → list_all is_character cs ≡ true
-      → Does here least Nothing
+      → PassingDoes here least Nothing
       (string_type place (length cs) >>= (λ type_id. enter_as (λ n. Text n cs) >> pure (typed_text type_id (length cs) id))) Types
   text_does place id {least} cs known more all =
       quietly (string_type_does place (length cs) more) λ type_id _ one made.
@@ -90,7 +90,7 @@ module _ (here : Here) where
       ))
 
   spelled_does : (place : Place) (id : Option ℕ) {least : Reached} (cs : List ℕ) → IsKnown id least → AreOfChar cs
-      → Does here least Nothing (spelled place id cs) Types
+      → PassingDoes here least Nothing (spelled place id cs) Types
   unfolding spelled
   spelled_does place id [] known all = absurd (no_characters all)
   spelled_does place id {least} (c ∷ []) known all =
@@ -104,7 +104,7 @@ module _ (here : Here) where
       no_variable_lawful here (place ∷ []) [] place _ refl
       (λ least lead is. led_covers here 2 place [] (led lead) (led_alone lead is) (by least lead))
     where
-      by : (least : Reached) (lead : Option SiteKind) → Does here least (Leads place (led lead) []) (string text place lead) Types
+      by : (least : Reached) (lead : Option SiteKind) → PassingDoes here least (Leads place (led lead) []) (string text place lead) Types
       by least lead =
           quietly (pass_does place) λ _ _ _ _.
           joins (leads_first 2 place (led lead) []) (behind_does lead place) λ id now _ known.
@@ -116,7 +116,7 @@ module _ (here : Here) where
   IsFormedTest asked now = (o : Outline) → IsFurther now (whole_of o) → is_well_formed_input o here.block asked ≡ true
 
   input_test_does : {least : Reached} (function : InputFunction) (place : Place)
-      → Does here least (ArePointsAt place) (input_test function place) IsFormedTest
+      → PassingDoes here least (ArePointsAt place) (input_test function place) IsFormedTest
   unfolding input_test
   input_test_does asks.Eof place = sited (no_point place) (pure_does test.End (λ n h o more. refl))
   input_test_does asks.Eoln place =
@@ -125,7 +125,7 @@ module _ (here : Here) where
       pure_does (test.LineEnd id) (λ n h o more. lt_true id o.points (omega (arith, known, h.points, more.points))))
 
   pub input_does : {least : Reached} (function : InputFunction) (place : Place) (lead : Option SiteKind) → IsLed lead
-      → Does here least (Covers 2 (place ∷ [])) (input_value function place lead) Types
+      → PassingDoes here least (Covers 2 (place ∷ [])) (input_value function place lead) Types
   unfolding input_value
   input_does function place lead is =
       (quietly (pass_does place) λ _ _ _ _.
@@ -136,18 +136,18 @@ module _ (here : Here) where
       pure_does (typed boolean id) (λ n h. ordinal_types boolean id now n (further_still one (further_still two h)) known))
 
   denoted_does : (denotation : Denotation) (place : Place) {least : Reached} (lead : Option SiteKind) → IsLed lead → IsFound here denotation least
-      → Does here least (Covers 2 (place ∷ [])) (denoted denotation place lead) Types
+      → PassingDoes here least (Covers 2 (place ∷ [])) (denoted denotation place lead) Types
   unfolding denoted
   denoted_does (denotes.Constant value type_id) place lead is sound = led_covers here 2 place [] (led lead) (led_alone lead is) by
     where
-      by : {least : Reached} → Does here least (Leads place (led lead) []) (denoted (denotes.Constant value type_id) place lead) Types
+      by : {least : Reached} → PassingDoes here least (Leads place (led lead) []) (denoted (denotes.Constant value type_id) place lead) Types
       by =
           joins (leads_first 2 place (led lead) []) (behind_does lead place) λ id now _ known.
           quietly (enter_does (λ n. Constant n value) (λ n. refl) (λ n. refl) (λ n. refl) (λ n. refl) (λ n o h. sound.0)) λ _ _ more _.
           pure_does (typed type_id id) (λ n h. ordinal_types type_id id now n (further_still more h) known)
   denoted_does (denotes.Text number type_id) place {least} lead is sound = led_covers here 2 place [] (led lead) (led_alone lead is) by
     where
-      by : Does here least (Leads place (led lead) []) (denoted (denotes.Text number type_id) place lead) Types
+      by : PassingDoes here least (Leads place (led lead) []) (denoted (denotes.Text number type_id) place lead) Types
       by =
           joins (leads_first 2 place (led lead) []) (behind_does lead place) λ id now seen known.
           quietly (text_at_does number) λ cs _ one are.
@@ -183,7 +183,8 @@ module _ (here : Here) where
 
   passed_does : {least : Reached} (name : Name) (selectors : List Selector) (rows : List (List Place)) (ws : List Written) (callee position : ℕ)
       (formal : Variable) → AreLawfulRows here rows ws → IsFormalAt least callee position formal → is_variable_kind formal.kind ≡ true
-      → Does here least (Covers 2 (name.place ∷ selector_places selectors rows)) (passed_variable name selectors ws formal.type_id callee position) Anything
+      → PassingDoes here least (Covers 2 (name.place ∷ selector_places selectors rows)) (passed_variable name selectors ws formal.type_id callee position)
+      Anything
   unfolding passed_variable
   passed_does {least} name selectors rows ws callee position formal laws at is =
       sited (λ sites has. ([], sites, refl, tt, has))
@@ -219,7 +220,7 @@ module _ (here : Here) where
       both reads range = Ok (reads, range)
 
   read_does : {least : Reached} (name : Name) (selectors : List Selector) (rows : List (List Place)) (ws : List Written) → AreLawfulRows here rows ws
-      → Does here least (Covers 2 (name.place ∷ selector_places selectors rows)) (read_variable name selectors ws) Anything
+      → PassingDoes here least (Covers 2 (name.place ∷ selector_places selectors rows)) (read_variable name selectors ws) Anything
   unfolding read_variable
   read_does {least} name selectors rows ws laws =
       (quietly (find_does name) λ d _ _ sound.
@@ -240,7 +241,7 @@ module _ (here : Here) where
       (λ o h. read_formed here origin component.0 component.1 read.1 id next o led h
       (omega (arith, known, four.points, five.points, six.points)) reads.0 values))
 
-  file_does : {least : Reached} (name : Name) (selectors : List Selector) → Does here least Nothing (file_named name selectors) Anything
+  file_does : {least : Reached} (name : Name) (selectors : List Selector) → PassingDoes here least Nothing (file_named name selectors) Anything
   unfolding file_named
   file_does name [] = quietly (find_does name) λ d _ _ _. pure_does (as_file d) (λ n h. tt)
   file_does name (selector ∷ selectors) = pure_does None (λ n h. tt)
@@ -278,7 +279,7 @@ module _ (here : Here) where
       no_variable_lawful here (place ∷ places) places place _ refl
       (λ least lead is. led_covers here 2 place places (led lead) (led_alone lead is) (by least lead))
     where
-      by : (least : Reached) (lead : Option SiteKind) → Does here least (Leads place (led lead) places) (parenthesized place inner lead) Types
+      by : (least : Reached) (lead : Option SiteKind) → PassingDoes here least (Leads place (led lead) places) (parenthesized place inner lead) Types
       by least lead =
           quietly (pass_does place) λ _ _ _ _.
           joins (leads_first 2 place (led lead) places) (behind_does lead place) λ id now _ known.
@@ -298,7 +299,7 @@ module _ (here : Here) where
       (λ least lead is. led_covers here 2 place places (led lead) (led_alone lead is) (by least lead))
     where
       by : (least : Reached) (lead : Option SiteKind)
-          → Does here least (Leads place (led lead) places) (prefixed type_id does place operand lead) Types
+          → PassingDoes here least (Leads place (led lead) places) (prefixed type_id does place operand lead) Types
       by least lead =
           quietly (pass_does place) λ _ _ _ _.
           joins (leads_first 2 place (led lead) places) (behind_does lead place) λ id now _ known.

@@ -10,7 +10,7 @@ use Rattle.typed_tree.specs.declared.site.SiteKind.{SiteKind}
 use Rattle.typed_tree.specs.declared.tree.Heading.{Heading}
 use Rattle.typed_tree.specs.declared.tree.Variable.{Variable}
 use Rattle.typed_tree.specs.WellFormed.{Outline, formal_of, is_variable_kind}
-use Rattle.typed_tree.specs.Sites.{number_of}
+use Rattle.typed_tree.specs.Sites.{code_of}
 use Rattle.typing.specs.Passing.{Passing}
 use Rattle.typing_rules.specs.declared.typed.Typed.{Typed}
 use Rattle.typing.specs.Expressions.{Written, WrittenLink, no_variable, not_readable, written}
@@ -19,20 +19,20 @@ use Rattle.typing_laws.proofs.Copies.{HasSource, source_longer}
 use Rattle.typing_laws.proofs.Covers.{Stood, AreAbove, Covers, Leads, covers_ahead, covers_lower, leads_covers}
 use Rattle.typing_laws.proofs.Reached.{Signature, signature_of, Reached, whole_of, IsFurther, Here, get_longer, get_mapped}
 use Rattle.typing_laws.proofs.Tables.{stands_longer}
-use Rattle.typing_laws.proofs.Steps.{Does, Anything, Nothing, fail_does, pure_does, sited, led, IsKnown}
+use Rattle.typing_laws.proofs.Steps.{PassingDoes, Anything, Nothing, fail_does, pure_does, sited, led, IsKnown}
 
 -- ---- the leading site
 
 -- its kind stands behind those that a first token has of its own
 abbrev pub IsLed : Option SiteKind → Type 0
 IsLed None = Unit {0}
-IsLed (Some kind) = 11 < number_of kind
+IsLed (Some kind) = 11 < code_of kind
 
 pub led_alone : (lead : Option SiteKind) → IsLed lead → AreAbove 2 (led lead)
 led_alone None is = tt
 led_alone (Some kind) is = (omega (arith, is), tt)
 
-pub led_behind : (own : SiteKind) (lead : Option SiteKind) → 2 < number_of own → number_of own ≤ 11 → IsLed lead → AreAbove 2 (own ∷ led lead)
+pub led_behind : (own : SiteKind) (lead : Option SiteKind) → 2 < code_of own → code_of own ≤ 11 → IsLed lead → AreAbove 2 (own ∷ led lead)
 led_behind own None high low is = (high, tt)
 led_behind own (Some kind) high low is = (high, (omega (arith, low, is), tt))
 
@@ -97,18 +97,18 @@ module _ (here : Here) where
   -- stands before them
   pub record LawfulWritten (places : List Place) (w : Written) : Type 0 where
     pub begins : (others : List Place) × (places ≡ w.first ∷ others)
-    pub types : (least : Reached) (lead : Option SiteKind) → IsLed lead → Does here least (Covers 2 places) (w.typing lead) Types
+    pub types : (least : Reached) (lead : Option SiteKind) → IsLed lead → PassingDoes here least (Covers 2 places) (w.typing lead) Types
     -- passed to a variable parameter
     pub passes :
         (least : Reached) (callee position : ℕ) (formal : Variable) → IsFormalAt least callee position formal → is_variable_kind formal.kind ≡ true
-        → Does here least (Covers 2 places) (w.passing formal.type_id callee position) Anything
-    pub reads : (least : Reached) → Does here least (Covers 2 places) w.reading Anything
+        → PassingDoes here least (Covers 2 places) (w.passing formal.type_id callee position) Anything
+    pub reads : (least : Reached) → PassingDoes here least (Covers 2 places) w.reading Anything
     -- the file that it names
-    pub names : (least : Reached) → Does here least Nothing w.file Anything
+    pub names : (least : Reached) → PassingDoes here least Nothing w.file Anything
 
   -- one that is no variable, by what it is as an expression
   pub no_variable_lawful : (places others : List Place) (first : Place) (typing : Option SiteKind → Passing Typed) → places ≡ first ∷ others
-      → ((least : Reached) (lead : Option SiteKind) → IsLed lead → Does here least (Covers 2 places) (typing lead) Types)
+      → ((least : Reached) (lead : Option SiteKind) → IsLed lead → PassingDoes here least (Covers 2 places) (typing lead) Types)
       → LawfulWritten places (written first typing)
   unfolding no_variable not_readable
   no_variable_lawful places others first typing begins types = record {
@@ -120,19 +120,19 @@ module _ (here : Here) where
   }
 
   pub record LawfulLink (places : List Place) (l : WrittenLink) : Type 0 where
-    pub types : (least : Reached) (left : Typed) → Types left least → Does here least (Covers 2 places) (l left) Types
+    pub types : (least : Reached) (left : Typed) → Types left least → PassingDoes here least (Covers 2 places) (l left) Types
 
   -- the site of a test at the first token, before the token's own
-  pub covers_test : (kind : SiteKind) → 0 < number_of kind → number_of kind ≤ 2 → (places : List Place) (w : Written) → LawfulWritten places w
+  pub covers_test : (kind : SiteKind) → 0 < code_of kind → code_of kind ≤ 2 → (places : List Place) (w : Written) → LawfulWritten places w
       → (a b : List Stood) → a ≡ (Some kind, w.first) ∷ [] → Covers 2 places b → Covers 0 places (a ++ b)
   covers_test kind high low places w law a b one has =
       let others = law.begins.0 in
       subst (λ l. Covers 0 places (l ++ b)) (sym one)
       (subst (λ p. Covers 0 p ((Some kind, w.first) ∷ b)) (sym law.begins.1)
       (covers_ahead 0 kind high w.first others b
-      (covers_lower 2 (number_of kind) low (w.first ∷ others) b (subst (λ p. Covers 2 p b) law.begins.1 has))))
+      (covers_lower 2 (code_of kind) low (w.first ∷ others) b (subst (λ p. Covers 2 p b) law.begins.1 has))))
 
   pub led_covers : (low : ℕ) (place : Place) (places : List Place) (kinds : List SiteKind) → AreAbove low kinds
-      → {least : Reached} {A : Type 0} {p : Passing A} {K : A → Reached → Type 0} → Does here least (Leads place kinds places) p K
-      → Does here least (Covers low (place ∷ places)) p K
+      → {least : Reached} {A : Type 0} {p : Passing A} {K : A → Reached → Type 0} → PassingDoes here least (Leads place kinds places) p K
+      → PassingDoes here least (Covers low (place ∷ places)) p K
   led_covers low place places kinds ascending d = sited (λ sites. leads_covers low place kinds places sites ascending) d

@@ -42,7 +42,7 @@ use Rattle.typing_laws.proofs.Reached.{Head, Here, IsFurther, Reached, as_far, a
 use Rattle.typing_laws.proofs.Sound.{HoldsOfRegion, IsInside, IsRecord, IsSound, IsVariable, put_holds, record_more, regions_later}
 use Rattle.typing_laws.proofs.Sound.{variable_later}
 use Rattle.typing_laws.proofs.Spared.{spared_then}
-use Rattle.typing_laws.proofs.Steps.{Does, Anything, Leaves, Nothing, ended_flat, enter_does, find_does, mark_does, no_sites, pass_does, quietly}
+use Rattle.typing_laws.proofs.Steps.{PassingDoes, Anything, PassingLeaves, Nothing, ended_flat, enter_does, find_does, mark_does, no_sites, pass_does, quietly}
 use Rattle.typing_laws.proofs.Steps.{silent_leaves, sited, split, split_behind}
 use Rattle.typing_laws.proofs.Strings.{behind_nothing}
 use Rattle.typing_laws.proofs.Went.{deeper, take_front}
@@ -232,7 +232,7 @@ record OpensHere (here : Here) (least : Reached) (Has : List Stood → Type 0) (
 
 -- behind other forms
 opens_behind : {here : Here} {least : Reached} {A : Type 0} {First Second Both : List Stood → Type 0} {p : Passing A} {f : A → Passing (Unit {0})}
-    {K : A → Reached → Type 0} → ((a b : List Stood) → First a → Second b → Both (a ++ b)) → Does here least First p K
+    {K : A → Reached → Type 0} → ((a b : List Stood) → First a → Second b → Both (a ++ b)) → PassingDoes here least First p K
     → ((x : A) (now : Reached) → IsFurther least now → K x now → OpensHere here now Second (f x)) → OpensHere here least Both (p >>= f)
 opens_behind {here} {Both = Both} {p = p} {f = f} joined first rest = record {
   opens = λ s b is fine h.
@@ -259,7 +259,7 @@ opens_behind {here} {Both = Both} {p = p} {f = f} joined first rest = record {
 }
 
 opens_quietly : {here : Here} {least : Reached} {A : Type 0} {Has : List Stood → Type 0} {p : Passing A} {f : A → Passing (Unit {0})}
-    {K : A → Reached → Type 0} → Does here least Nothing p K
+    {K : A → Reached → Type 0} → PassingDoes here least Nothing p K
     → ((x : A) (now : Reached) → IsFurther least now → K x now → OpensHere here now Has (f x)) → OpensHere here least Has (p >>= f)
 opens_quietly {Has = Has} first rest = opens_behind (λ a b none has. subst (λ l. Has (l ++ b)) (sym none) has) first rest
 
@@ -435,7 +435,7 @@ opens_all here (one ∷ others) s b is fine =
 
 -- ---- the statement of a with
 
-next_slot_does : {here : Here} {least : Reached} → Does here least Nothing next_slot (λ slot now. slot ≡ length (open_in here))
+next_slot_does : {here : Here} {least : Reached} → PassingDoes here least Nothing next_slot (λ slot now. slot ≡ length (open_in here))
 unfolding next_slot
 next_slot_does {here} = record {
   does = λ s a is fine h.
@@ -445,7 +445,7 @@ next_slot_does {here} = record {
 }
 
 module _ (here : Here) (records : List RecordVariable) (body : Passing (Unit {0})) (places : List Place)
-    (law : (inside : Here) (least : Reached) → Does inside least (Covers 0 places) body Anything) where
+    (law : (inside : Here) (least : Reached) → PassingDoes inside least (Covers 0 places) body Anything) where
   abbrev variables_written : List WrittenVariable
   variables_written = map written_record records
 
@@ -454,11 +454,11 @@ module _ (here : Here) (records : List RecordVariable) (body : Passing (Unit {0}
   closed_as_many (r ∷ rs) t = closed_as_many rs (without_record t)
 
   -- the statement where all of them are open
-  body_does : (inside : Here) (least : Reached) → Does inside least (Covers 0 places) (mark Do >>= (λ _. body)) Anything
+  body_does : (inside : Here) (least : Reached) → PassingDoes inside least (Covers 0 places) (mark Do >>= (λ _. body)) Anything
   body_does inside least = quietly (mark_does Do refl refl refl refl (λ o h. refl)) λ _ now _ _. law inside now
 
   nested_does : (least : Reached) (slot : ℕ) → slot ≡ length (open_in here)
-      → Does here least (Covers 0 (flat_map record_places records ++ places))
+      → PassingDoes here least (Covers 0 (flat_map record_places records ++ places))
       (each opened variables_written
       >>= (λ _. mark Do >>= (λ _. body >>= (λ _. each (λ _. close_record) variables_written >>= (λ _. mark (WithEnds slot))))))
       Anything
@@ -485,7 +485,7 @@ module _ (here : Here) (records : List RecordVariable) (body : Passing (Unit {0}
         ∙ ap (λ (z : After (Unit {0})). after z.answer (b.look ++ (Do ∷ (c.look ++ z.look))) z.passed) ended
         ∙ ap (λ (z : After (Unit {0})). after z.answer (b.look ++ (Do ∷ z.look)) z.passed) w.2
         ∙ ap (λ (z : After (Unit {0})). after z.answer (b.look ++ z.look) z.passed) u.2 ∙ y.2 in
-        subst (Leaves here (Covers 0 (flat_map record_places records ++ places)) s Anything) whole (
+        subst (PassingLeaves here (Covers 0 (flat_map record_places records ++ places)) s Anything) whole (
           grown,
           record {
             added = both.added;
@@ -508,7 +508,7 @@ module _ (here : Here) (records : List RecordVariable) (body : Passing (Unit {0}
           ok_same g = cc
 
   pub with_does : (least : Reached) (place : Place)
-      → Does here least (Covers 0 (place ∷ (flat_map record_places records ++ places))) (with_statement place variables_written body) Anything
+      → PassingDoes here least (Covers 0 (place ∷ (flat_map record_places records ++ places))) (with_statement place variables_written body) Anything
   unfolding with_statement
   with_does least place =
       sited (λ sites. covers_skip 0 place (flat_map record_places records ++ places) sites)

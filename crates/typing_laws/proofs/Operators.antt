@@ -66,7 +66,8 @@ use Rattle.typing_laws.proofs.Covers.{AreAbove, at_place, Covers, Leads, covers_
 use Rattle.typing_laws.proofs.Covers.{leads_more}
 use Rattle.typing_laws.proofs.Grown.{both_true}
 use Rattle.typing_laws.proofs.Reached.{IsLonger, Reached, whole_of, IsFurther, further_still, Here}
-use Rattle.typing_laws.proofs.Steps.{Does, Anything, Nothing, IsFound, joins, quietly, last, checks, checks_types, sited, pass_does, pure_does, given_does}
+use Rattle.typing_laws.proofs.Steps.{PassingDoes, Anything, Nothing, IsFound, joins, quietly, last, checks, checks_types, sited, pass_does, pure_does}
+use Rattle.typing_laws.proofs.Steps.{given_does}
 use Rattle.typing_laws.proofs.Steps.{find_does}
 use Rattle.typing_laws.proofs.Steps.{IsKnown, mark_does, enter_does, site_does, led, behind_does, split}
 use Rattle.typing_laws.proofs.Strings.{fit_is, both_and, there}
@@ -273,14 +274,14 @@ module _ (here : Here) where
 
   tested_does : {least : Reached} (made : ℕ → Dyadic) (kind : SiteKind) (place : Place)
       → ((w : Outline) (id : ℕ) → id < w.sites → dyadic_is_well_formed w here.block (made id) ≡ true)
-      → Does here least (λ added. added ≡ (Some kind, place) ∷ []) (tested made kind place) IsFormed
+      → PassingDoes here least (λ added. added ≡ (Some kind, place) ∷ []) (tested made kind place) IsFormed
   unfolding tested
   tested_does made kind place formed =
       last (site_does kind place) λ id now _ known.
       pure_does (made id) (λ m h w more. formed w id (omega (arith, known, h.sites, more.sites)))
 
   operation_does : {least : Reached} (o : Operator) (place : Place)
-      → Does here least (λ added. added ≡ at_place place (operator_kinds o)) (operation o place) IsFormed
+      → PassingDoes here least (λ added. added ≡ at_place place (operator_kinds o)) (operation o place) IsFormed
   unfolding operation
   operation_does op.Plus place = tested_does dyadic.Plus kind.Overflow place (λ w id. lt_true id w.sites)
   operation_does op.Minus place = tested_does dyadic.Minus kind.Overflow place (λ w id. lt_true id w.sites)
@@ -301,7 +302,7 @@ module _ (here : Here) where
 
   operation_or_does : {least : Reached} (found : Option Dyadic) (o : Operator) (place : Place)
       → ((does : Dyadic) → found ≡ Some does → (w : Outline) → dyadic_is_well_formed w here.block does ≡ true)
-      → Does here least (λ added. added ≡ at_place place (kinds_or found o)) (operation_or found o place) IsFormed
+      → PassingDoes here least (λ added. added ≡ at_place place (kinds_or found o)) (operation_or found o place) IsFormed
   unfolding operation_or
   operation_or_does None o place formed = operation_does o place
   operation_or_does (Some does) o place formed = pure_does does (λ m h w more. formed does refl w)
@@ -316,7 +317,7 @@ module _ (here : Here) where
   }
     where
       by : (least : Reached) (left : Typed) → Types left least
-          → Does here least (Leads place (kinds_or (set_operation_behind o left.value) o) places) (link o place operand left) Types
+          → PassingDoes here least (Leads place (kinds_or (set_operation_behind o left.value) o) places) (link o place operand left) Types
       by least left known =
           let found = set_operation_behind o left.value in
           joins (leads_first 2 place (kinds_or found o) places)
@@ -330,18 +331,18 @@ module _ (here : Here) where
 
   -- ---- chains
 
-  pub links_none : {least : Reached} (left : Typed) → Types left least → Does here least (Covers 2 []) (links left []) Types
+  pub links_none : {least : Reached} (left : Typed) → Types left least → PassingDoes here least (Covers 2 []) (links left []) Types
   links_none {least} left known = pure_does left (λ n h. types_later left least n h known)
 
   pub links_more : {least : Reached} (left : Typed) (l : WrittenLink) (ls : List WrittenLink) (first rest : List Place) → Types left least
       → LawfulLink here first l
-      → ((now : Reached) (t : Typed) → Types t now → Does here now (Covers 2 rest) (links t ls) Types)
-      → Does here least (Covers 2 (first ++ rest)) (links left (l ∷ ls)) Types
+      → ((now : Reached) (t : Typed) → Types t now → PassingDoes here now (Covers 2 rest) (links t ls) Types)
+      → PassingDoes here least (Covers 2 (first ++ rest)) (links left (l ∷ ls)) Types
   links_more {least} left l ls first rest known law more =
       joins (covers_both 2 first rest) (law.types least left known) λ t now _ known. more now t known
 
   pub chain_does : (first : Written) (ls : List WrittenLink) (places others : List Place) → LawfulWritten here places first
-      → ((now : Reached) (t : Typed) → Types t now → Does here now (Covers 2 others) (links t ls) Types)
+      → ((now : Reached) (t : Typed) → Types t now → PassingDoes here now (Covers 2 others) (links t ls) Types)
       → LawfulWritten here (places ++ others) (written first.first (chain first ls))
   unfolding chain
   chain_does first ls places others law more =
@@ -360,7 +361,7 @@ module _ (here : Here) where
   -- ---- relations
 
   compares_does : {least : Reached} (left right : Option Copy) → AreAlike least.types left right
-      → Does here least Nothing (compares left right) Anything
+      → PassingDoes here least Nothing (compares left right) Anything
   unfolding compares
   compares_does (Some a) (Some b) alike =
       mark_does (Compared a.source a.cells b.source b.cells) refl refl refl refl
@@ -444,7 +445,7 @@ module _ (here : Here) where
       both id type_id = Ok (id, type_id)
 
   first_member_does : {least : Reached} (host : Option TypeId) (w : Written) (places : List Place) → LawfulWritten here places w
-      → Does here least (Covers 0 places) (first_member host w) HasMemberSite
+      → PassingDoes here least (Covers 0 places) (first_member host w) HasMemberSite
   unfolding first_member
   first_member_does {least} host w places law =
       sited (covers_any 2 places)
@@ -452,7 +453,7 @@ module _ (here : Here) where
       with_site_is host w.first t m n is own.0)
 
   last_member_does : {least : Reached} (host : Option TypeId) (w : Written) (places : List Place) → LawfulWritten here places w
-      → Does here least (Covers 0 places) (last_member host w) Anything
+      → PassingDoes here least (Covers 0 places) (last_member host w) Anything
   unfolding last_member
   last_member_does {least} host w places law =
       sited (covers_any 2 places) (checks {L = Anything} (law.types least None tt) λ types t m n more is own. tt)
@@ -462,7 +463,7 @@ module _ (here : Here) where
 
   member_does : {least : Reached} (host : Option TypeId) (first : Written) (end : Option Written) (places : List Place) (others : Option Places)
       → LawfulWritten here places first → IsLawfulLast others end
-      → Does here least (Covers 0 (member_places (places, others))) (member host first end) HasDesignatorSite
+      → PassingDoes here least (Covers 0 (member_places (places, others))) (member host first end) HasDesignatorSite
   unfolding member
   member_does host first None places None law own =
       sited (λ sites. covers_more 0 places [] sites)
@@ -477,7 +478,7 @@ module _ (here : Here) where
 
   members_do : {least : Reached} (made : List Designator) (host : Option TypeId) (rows : List (Places × Option Places))
       (ms : List (Written × Option Written)) → AreLawfulMembers rows ms → AreSites made least
-      → Does here least (Covers 0 (flat_map member_places rows)) (members made host ms) (λ all now. AreSites all.0 now)
+      → PassingDoes here least (Covers 0 (flat_map member_places rows)) (members made host ms) (λ all now. AreSites all.0 now)
   members_do {least} made host [] [] laws known = pure_does (made, host) (λ n h. sites_later made least n h known)
   members_do made host [] (m ∷ ms) laws known = absurd laws
   members_do made host (row ∷ rows) [] laws known = absurd laws
@@ -493,7 +494,7 @@ module _ (here : Here) where
       (λ least lead is. led_covers here 2 place (flat_map member_places rows) (led lead) (led_alone lead is) (by least lead))
     where
       by : (least : Reached) (lead : Option SiteKind)
-          → Does here least (Leads place (led lead) (flat_map member_places rows)) (constructed place ms lead) Types
+          → PassingDoes here least (Leads place (led lead) (flat_map member_places rows)) (constructed place ms lead) Types
       by least lead =
           quietly (pass_does place) λ _ _ _ _.
           joins (leads_first 0 place (led lead) (flat_map member_places rows)) (behind_does lead place) λ id now _ known.
@@ -524,7 +525,7 @@ module _ (here : Here) where
   function_ascending (Tests test.Previous) lead is = led_behind kind.Pred lead (omega arith) (omega arith) is
 
   calculation_does : {least : Reached} (calculated : FunctionValue) (place : Place)
-      → Does here least (λ added. added ≡ at_place place (calculation_kinds calculated)) (calculation_of calculated place)
+      → PassingDoes here least (λ added. added ≡ at_place place (calculation_kinds calculated)) (calculation_of calculated place)
       (IsFormedBy calculation_is_well_formed)
   unfolding calculation_of
   calculation_does function.Same place = pure_does calculation.Ordinal (λ m h w more. refl)
@@ -540,7 +541,7 @@ module _ (here : Here) where
       → IsFormedBy monadic_is_well_formed (operation_on types id operation) now
 
   function_does : {least : Reached} (operation : FunctionOperation) (place : Place)
-      → Does here least (λ added. added ≡ at_place place (function_kinds operation)) (begins_as operation place) IsFormedFunction
+      → PassingDoes here least (λ added. added ≡ at_place place (function_kinds operation)) (begins_as operation place) IsFormedFunction
   unfolding begins_as
   function_does (Calculates calculated) place =
       last (calculation_does calculated place) λ does now _ formed.
@@ -567,7 +568,7 @@ module _ (here : Here) where
 
   required_does : {least : Reached} (d : Denotation) (name : Name) (actuals : List WrittenActual) (places : List Place) (lead : Option SiteKind) → IsLed lead
       → ((w : Written) → only name.place actuals ≡ Ok w → LawfulWritten here places w)
-      → Does here least (Covers 2 (name.place ∷ places)) (required_call d name actuals lead) Types
+      → PassingDoes here least (Covers 2 (name.place ∷ places)) (required_call d name actuals lead) Types
   unfolding required_call
   required_does d name actuals places lead is laws =
       quietly (given_does (as_function name.place d)) λ f there _ _.
@@ -587,7 +588,7 @@ module _ (here : Here) where
   -- eof and eoln may name the input
   input_call_does : {least : Reached} (function : InputFunction) (place : Place) (actuals : List WrittenActual) (places : List Place)
       (lead : Option SiteKind) → IsLed lead → ((w : Written) → only place actuals ≡ Ok w → LawfulWritten here places w)
-      → Does here least (Covers 2 (place ∷ places)) (input_call function place actuals lead) Types
+      → PassingDoes here least (Covers 2 (place ∷ places)) (input_call function place actuals lead) Types
   unfolding input_call
   input_call_does function place actuals places lead is laws =
       quietly (given_does (only place actuals)) λ actual met _ right.
@@ -598,7 +599,7 @@ module _ (here : Here) where
   called_does : {least : Reached} (d : Denotation) (name : Name) (actuals : List WrittenActual) (rows : List (List Place)) (lead : Option SiteKind)
       → IsLed lead → IsFound here d least
       → ((w : Written) → only name.place actuals ≡ Ok w → LawfulWritten here (joined_places rows) w) → AreLawfulActuals here rows actuals
-      → Does here least (Covers 2 (name.place ∷ joined_places rows)) (call_by d name actuals lead) Types
+      → PassingDoes here least (Covers 2 (name.place ∷ joined_places rows)) (call_by d name actuals lead) Types
   called_does (denotes.Routine block is_function) name actuals rows lead is sound laws all =
       function_does_call here block is_function name.place actuals rows lead is sound.0 sound.1 all
   called_does (denotes.InputFunction function) name actuals rows lead is sound laws all =

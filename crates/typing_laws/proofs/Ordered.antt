@@ -4,7 +4,7 @@ use Rattle.std.proofs.lemmas.Bool.Decides.{nat_tests}
 use Rattle.place.specs.declared.Place.{Place}
 use Rattle.place.specs.Place.{comes_before, ArePlacesInOrder}
 use Rattle.typed_tree.specs.declared.site.SiteKind.{SiteKind}
-use Rattle.typed_tree.specs.Sites.{number_of}
+use Rattle.typed_tree.specs.Sites.{code_of}
 use Rattle.typed_tree.specs.Ids.{Stands, stands_before, AreByPlace}
 use Rattle.typing_laws.proofs.Covers.{AreAbove, Ascend, Covers, Stood, group, sites_among}
 
@@ -14,7 +14,7 @@ before_trans a b c h k = grind (arith, nat_tests)
 at_earlier : (a b : Stands) → IsTrue (comes_before a.1 b.1) → IsTrue (stands_before a b)
 at_earlier a b h = grind (arith, nat_tests)
 
-at_same : (place : Place) (first second : SiteKind) → number_of first < number_of second → IsTrue (stands_before (first, place) (second, place))
+at_same : (place : Place) (first second : SiteKind) → code_of first < code_of second → IsTrue (stands_before (first, place) (second, place))
 at_same place first second h = grind (arith, nat_tests)
 
 -- ---- places in order
@@ -50,7 +50,7 @@ among place (Some kind ∷ here) later = ap (λ l. (kind, place) ∷ l) (among p
 above_among : (low : ℕ) (here : List (Option SiteKind)) → Ascend low here → AreAbove low (kinds_among here)
 above_among low [] is = tt
 above_among low (None ∷ here) is = above_among low here is
-above_among low (Some kind ∷ here) is = (is.0, above_among (number_of kind) here is.1)
+above_among low (Some kind ∷ here) is = (is.0, above_among (code_of kind) here is.1)
 
 first_behind : (place : Place) (places : List Place) (added : List Stood) → ArePlacesInOrder (place ∷ places) → Covers 0 places added
     → FirstBehind place (sites_among added)
@@ -71,7 +71,7 @@ group_by_place low place [] later ascending behind ordered = ordered
 group_by_place low place (kind ∷ []) [] ascending behind ordered = tt
 group_by_place low place (kind ∷ []) (one ∷ others) ascending behind ordered = (at_earlier (kind, place) one behind, ordered)
 group_by_place low place (kind ∷ next ∷ here) later ascending behind ordered =
-    (at_same place kind next ascending.1.0, group_by_place (number_of kind) place (next ∷ here) later ascending.1 behind ordered)
+    (at_same place kind next ascending.1.0, group_by_place (code_of kind) place (next ∷ here) later ascending.1 behind ordered)
 
 pub covers_by_place : (places : List Place) (added : List Stood) → ArePlacesInOrder places → Covers 0 places added → AreByPlace (sites_among added)
 covers_by_place [] added order none = subst (λ (l : List Stood). AreByPlace (sites_among l)) (sym none) tt

@@ -29,7 +29,7 @@ use Rattle.typed_tree.specs.declared.fault.TypeFault.TheVariants as fault
 use Rattle.typed_tree.specs.declared.site.SiteKind.{SiteKind}
 use Rattle.typed_tree.specs.declared.site.SiteKind.TheVariants as kind
 use Rattle.typed_tree.specs.declared.tree.Representation.{Representation}
-use Rattle.typed_tree.specs.Sites.{number_of}
+use Rattle.typed_tree.specs.Sites.{code_of}
 use Rattle.typed_tree.specs.declared.tree.Variable.{Variable}
 use Rattle.typed_tree.specs.Look.{Assign, Copied, Fits, Write, Written as WrittenMark, Width, Empty, Compound, If, Then, Else, While, Do, Repeat, Until, For}
 use Rattle.typed_tree.specs.Look.{Case, Arm, Ends, Mark, Read, WrittenString, is_formed_mark}
@@ -68,7 +68,8 @@ use Rattle.typing_laws.proofs.Covers.{covers_behind, covers_more, covers_skip, c
 use Rattle.typing_laws.proofs.Grown.{heads_of, both_true}
 use Rattle.typing_laws.proofs.Reached.{Reached, whole_of, IsFurther, further_still, Here, StandsIn, get_longer}
 use Rattle.typing_laws.proofs.Sound.{IsRoutine, IsVariable, variable_later}
-use Rattle.typing_laws.proofs.Steps.{Does, Anything, Nothing, IsFound, IsSoundThen, joins, quietly, last, checks, checks_types, sited, pure_does, given_does}
+use Rattle.typing_laws.proofs.Steps.{PassingDoes, Anything, Nothing, IsFound, IsSoundThen, joins, quietly, last, checks, checks_types, sited, pure_does}
+use Rattle.typing_laws.proofs.Steps.{given_does}
 use Rattle.typing_laws.proofs.Steps.{by_types_does}
 use Rattle.typing_laws.proofs.Steps.{answered, fail_does, find_does, pass_does, point_does, wants_file_does, mark_does, enter_does, enter_loop_does}
 use Rattle.typing_laws.proofs.Steps.{may_change_does}
@@ -129,27 +130,27 @@ form_is place types t form now same is = by t.value (ap (λ l. written_as l t) s
 
 module _ (here : Here) where
   pub record LawfulStatement (places : List Place) (p : Passing (Unit {0})) : Type 0 where
-    pub passes : (least : Reached) → Does here least (Covers 0 places) p Anything
+    pub passes : (least : Reached) → PassingDoes here least (Covers 0 places) p Anything
 
   typed_does : (least : Reached) (places : List Place) (w : Written) (lead : Option SiteKind) → LawfulWritten here places w → IsLed lead
-      → Does here least (Covers 0 places) (w.typing lead) Types
+      → PassingDoes here least (Covers 0 places) (w.typing lead) Types
   typed_does least places w lead law is = sited (covers_lower 2 0 (omega arith) places) (law.types least lead is)
 
   -- ---- assignments
 
   -- the range of a test is that of the type
-  ranges_do : {least : Reached} {Has : List Stood → Type 0} {p : Passing Typed} (id : TypeId) (place : Place) → Does here least Has p Types
-      → Does here least Has (p >>? (λ types t. or_mismatch place (fitting types id t))) (λ range n. IsRangeOf n.types id range)
+  ranges_do : {least : Reached} {Has : List Stood → Type 0} {p : Passing Typed} (id : TypeId) (place : Place) → PassingDoes here least Has p Types
+      → PassingDoes here least Has (p >>? (λ types t. or_mismatch place (fitting types id t))) (λ range n. IsRangeOf n.types id range)
   ranges_do id place typed = checks_types typed λ types t range n more same lawful fits _. fitting_whole place types n.types id t range same lawful.whole fits
 
   -- the kind of the site of a test
-  test_above : (tested : Scalar) → 0 < number_of (test_kind tested)
+  test_above : (tested : Scalar) → 0 < code_of (test_kind tested)
   test_above scalar.Ordinal = omega arith
   test_above scalar.Set = omega arith
 
   assigned_does : {least : Reached} (tested : Scalar) (to : Accessed) (becomes : Place) (places : List Place) (value : Written) → IsAccessed here to least
       → holds least.types tested to.type_id ≡ true → LawfulWritten here places value
-      → Does here least (Covers 0 (becomes ∷ places)) (assigned tested to becomes value) Anything
+      → PassingDoes here least (Covers 0 (becomes ∷ places)) (assigned tested to becomes value) Anything
   unfolding assigned
   assigned_does {least} tested to becomes places value led held law =
       led_covers here 0 becomes places (test_kind tested ∷ []) (test_above tested, tt)
@@ -163,7 +164,7 @@ module _ (here : Here) where
       (λ o h. fits_formed here to.origin to.selectors to.type_id test n o led_there h (omega (arith, known, more.sites)) held_there is.0 is.1))
 
   copied_does : {least : Reached} (id : TypeId) (becomes : Place) (places : List Place) (value : Written) → is_structured least.types id ≡ true
-      → LawfulWritten here places value → Does here least (Covers 0 (becomes ∷ places)) (copied id becomes value) Anything
+      → LawfulWritten here places value → PassingDoes here least (Covers 0 (becomes ∷ places)) (copied id becomes value) Anything
   unfolding copied
   copied_does id becomes places value structured law =
       sited (λ sites. covers_skip 0 becomes places sites)
@@ -177,7 +178,7 @@ module _ (here : Here) where
 
   value_does : {least : Reached} (found : Option TypeKind) (to : Accessed) (becomes : Place) (places : List Place) (value : Written) → IsAccessed here to least
       → kind_of least.types to.type_id ≡ found → LawfulWritten here places value
-      → Does here least (Covers 0 (becomes ∷ places)) (assigned_by_kind found to becomes value) Anything
+      → PassingDoes here least (Covers 0 (becomes ∷ places)) (assigned_by_kind found to becomes value) Anything
   value_does (Some kind_of_type.Structured) to becomes places value led is law =
       copied_does to.type_id becomes places value (ap is_structured_kind is) law
   value_does (Some (kind_of_type.Set base members)) to becomes places value led is law =
@@ -202,7 +203,7 @@ module _ (here : Here) where
   -- ---- what is written and read
 
   unless_wide_does : {least : Reached} (places : List Place) (value : Written) (w : Option Written) → LawfulWritten here places value
-      → Does here least Nothing (unless_wide value w) Anything
+      → PassingDoes here least Nothing (unless_wide value w) Anything
   unless_wide_does {least} places value None law = law.names least
   unless_wide_does places value (Some w) law = pure_does None (λ n h. tt)
 
@@ -228,7 +229,7 @@ module _ (here : Here) where
   behind_file_among file.Output place row rows first rest (Some file.Input) found law laws is = absurd cc
 
   without_file_does : {least : Reached} (wanted : File) (place : Place) (rows : List (List Place)) (actuals : List WrittenActual)
-      → AreLawfulActuals here rows actuals → Does here least Nothing (without_file wanted place actuals) (λ found now. AreAmong rows found)
+      → AreLawfulActuals here rows actuals → PassingDoes here least Nothing (without_file wanted place actuals) (λ found now. AreAmong rows found)
   unfolding without_file
   without_file_does wanted place [] [] laws = pure_does [] (λ n h. ([], tt, λ sites has. has))
   without_file_does wanted place [] (first ∷ rest) laws = absurd laws
@@ -239,7 +240,7 @@ module _ (here : Here) where
       (given_does (behind_file wanted place first rest named))
 
   parameters_are : {least : Reached} (place : Place) (procedure : RequiredProcedure) (rows : List (List Place)) (actuals : List WrittenActual)
-      → AreLawfulActuals here rows actuals → Does here least Nothing (parameters_of place procedure actuals) (λ found now. AreAmong rows found)
+      → AreLawfulActuals here rows actuals → PassingDoes here least Nothing (parameters_of place procedure actuals) (λ found now. AreAmong rows found)
   unfolding parameters_of
   parameters_are place procedure rows actuals laws =
       quietly (without_file_does procedure.file place rows actuals laws) λ found _ _ among.
@@ -247,7 +248,7 @@ module _ (here : Here) where
       pure_does found (λ n h. among)
 
   width_does : (least : Reached) (places : List Place) (w : Option Written) → IsLawfulWidth here places w
-      → Does here least (Covers 0 places) (width w) Anything
+      → PassingDoes here least (Covers 0 places) (width w) Anything
   unfolding width
   width_does least places None law =
       sited (λ sites none. subst (Covers 0 places) (sym none) (covers_none 0 places))
@@ -258,7 +259,7 @@ module _ (here : Here) where
       mark_does (Width id) refl refl refl refl (λ m h. lt_true id m.sites (omega (arith, known, h.sites)))
 
   parameter_does : (least : Reached) (places : List Place) (a : WrittenActual) → LawfulActual here places a
-      → Does here least (Covers 0 places) (parameter a) Anything
+      → PassingDoes here least (Covers 0 places) (parameter a) Anything
   unfolding parameter
   parameter_does least places a law =
       sited (λ sites. subst (λ p. Covers 0 p sites) (sym law.places_are))
@@ -269,7 +270,7 @@ module _ (here : Here) where
       width_does next law.of_width a.width law.width)
 
   parameters_do : (least : Reached) (rows : List (List Place)) (values : List WrittenActual) → AreLawfulActuals here rows values
-      → Does here least (Covers 0 (joined_places rows)) (each parameter values) Anything
+      → PassingDoes here least (Covers 0 (joined_places rows)) (each parameter values) Anything
   parameters_do least [] [] laws = pure_does tt (λ n h. tt)
   parameters_do least [] (value ∷ values) laws = absurd laws
   parameters_do least (row ∷ rows) [] laws = absurd laws
@@ -278,7 +279,7 @@ module _ (here : Here) where
       parameters_do now rows values laws.1
 
   write_does : (least : Reached) (name : Name) (rows : List (List Place)) (actuals : List WrittenActual) (procedure : RequiredProcedure)
-      → AreLawfulActuals here rows actuals → Does here least (Covers 0 (joined_places rows)) (write name actuals procedure) Anything
+      → AreLawfulActuals here rows actuals → PassingDoes here least (Covers 0 (joined_places rows)) (write name actuals procedure) Anything
   unfolding write
   write_does least name rows actuals procedure laws =
       quietly (enter_does (λ n. Write n name.place procedure.ends_line) (λ n. refl) (λ n. refl) (λ n. refl) (λ n. refl)
@@ -289,7 +290,7 @@ module _ (here : Here) where
       mark_does Ends refl refl refl refl (λ n h. refl))
 
   read_parameter_does : (least : Reached) (places : List Place) (a : WrittenActual) → LawfulActual here places a
-      → Does here least (Covers 0 places) (read_parameter a) Anything
+      → PassingDoes here least (Covers 0 places) (read_parameter a) Anything
   unfolding read_parameter
   read_parameter_does least places a law =
       sited (λ sites has.
@@ -298,7 +299,7 @@ module _ (here : Here) where
       law.value.reads now)
 
   reads_do : (least : Reached) (rows : List (List Place)) (variables : List WrittenActual) → AreLawfulActuals here rows variables
-      → Does here least (Covers 0 (joined_places rows)) (each read_parameter variables) Anything
+      → PassingDoes here least (Covers 0 (joined_places rows)) (each read_parameter variables) Anything
   reads_do least [] [] laws = pure_does tt (λ n h. tt)
   reads_do least [] (one ∷ others) laws = absurd laws
   reads_do least (row ∷ rows) [] laws = absurd laws
@@ -311,7 +312,7 @@ module _ (here : Here) where
   IsFormedLine line now = (o : Outline) → IsFurther now (whole_of o) → is_well_formed_line o here.block line ≡ true
 
   line_point_does : {least : Reached} (place : Place) (ends_line : Bool)
-      → Does here least (ArePointsAt place) (line_point place ends_line) IsFormedLine
+      → PassingDoes here least (ArePointsAt place) (line_point place ends_line) IsFormedLine
   unfolding line_point
   line_point_does place false = sited (no_point place) (pure_does None (λ n h o more. refl))
   line_point_does place true =
@@ -320,7 +321,7 @@ module _ (here : Here) where
       pure_does (Some id) (λ n h o more. lt_true id o.points (omega (arith, known, h.points, more.points))))
 
   read_does : (least : Reached) (name : Name) (rows : List (List Place)) (actuals : List WrittenActual) (procedure : RequiredProcedure)
-      → AreLawfulActuals here rows actuals → Does here least (Covers 0 (name.place ∷ joined_places rows)) (read name actuals procedure) Anything
+      → AreLawfulActuals here rows actuals → PassingDoes here least (Covers 0 (name.place ∷ joined_places rows)) (read name actuals procedure) Anything
   unfolding read
   read_does least name rows actuals procedure laws =
       joins (points_first 0 name.place (joined_places rows)) (line_point_does name.place procedure.ends_line) λ line _ _ formed.
@@ -331,13 +332,13 @@ module _ (here : Here) where
       mark_does Ends refl refl refl refl (λ n h. refl))
 
   by_file_does : (least : Reached) (one : File) (name : Name) (rows : List (List Place)) (actuals : List WrittenActual) (procedure : RequiredProcedure)
-      → AreLawfulActuals here rows actuals → Does here least (Covers 0 (name.place ∷ joined_places rows)) (by_file one name actuals procedure) Anything
+      → AreLawfulActuals here rows actuals → PassingDoes here least (Covers 0 (name.place ∷ joined_places rows)) (by_file one name actuals procedure) Anything
   by_file_does least file.Input name rows actuals procedure laws = read_does least name rows actuals procedure laws
   by_file_does least file.Output name rows actuals procedure laws =
       sited (λ added. covers_skip 0 name.place (joined_places rows) added) (write_does least name rows actuals procedure laws)
 
   file_call_does : {least : Reached} (name : Name) (rows : List (List Place)) (actuals : List WrittenActual) (procedure : RequiredProcedure)
-      → AreLawfulActuals here rows actuals → Does here least (Covers 0 (name.place ∷ joined_places rows)) (file_call name actuals procedure) Anything
+      → AreLawfulActuals here rows actuals → PassingDoes here least (Covers 0 (name.place ∷ joined_places rows)) (file_call name actuals procedure) Anything
   unfolding file_call
   file_call_does name rows actuals procedure laws =
       quietly (wants_file_does procedure.file name.place) λ _ now _ _.
@@ -349,7 +350,7 @@ module _ (here : Here) where
 
   declared_does : {least : Reached} (callee : ℕ) (is_function : Bool) (name : Name) (rows : List (List Place)) (actuals : List WrittenActual)
       → IsRoutine here (heads_of least) callee is_function → StandsIn here least → AreLawfulActuals here rows actuals
-      → Does here least (Covers 0 (joined_places rows)) (declared_call callee is_function name actuals) Anything
+      → PassingDoes here least (Covers 0 (joined_places rows)) (declared_call callee is_function name actuals) Anything
   unfolding declared_call
   declared_does callee true name rows actuals routine stands laws = fail_does (fault.WrongParameters name.place)
   declared_does callee false name rows actuals routine stands laws =
@@ -358,7 +359,7 @@ module _ (here : Here) where
 
   called_does : {least : Reached} (found : Option (ℕ × Bool)) (d : Denotation) → as_routine d ≡ found → IsFound here d least → (name : Name)
       (rows : List (List Place)) (actuals : List WrittenActual) → AreLawfulActuals here rows actuals
-      → Does here least (Covers 0 (name.place ∷ joined_places rows)) (call_by found d name actuals) Anything
+      → PassingDoes here least (Covers 0 (name.place ∷ joined_places rows)) (call_by found d name actuals) Anything
   unfolding required_call
   called_does None d same sound name rows actuals laws =
       quietly (given_does (as_procedure name.place d)) λ procedure _ _ _. file_call_does name rows actuals procedure laws
@@ -379,7 +380,7 @@ module _ (here : Here) where
   -- ---- compound statements
 
   pub compound_does : (places : List Place) (statements : List (Passing (Unit {0})))
-      → ((least : Reached) → Does here least (Covers 0 places) (each (λ s. s) statements) Anything) → LawfulStatement places (compound statements)
+      → ((least : Reached) → PassingDoes here least (Covers 0 places) (each (λ s. s) statements) Anything) → LawfulStatement places (compound statements)
   unfolding compound
   compound_does places statements row = record {
     passes = λ least.
@@ -391,7 +392,7 @@ module _ (here : Here) where
   -- ---- branches
 
   condition_does : (least : Reached) (places : List Place) (w : Written) → LawfulWritten here places w
-      → Does here least (Covers 0 places) (condition w) Anything
+      → PassingDoes here least (Covers 0 places) (condition w) Anything
   unfolding condition
   condition_does least places w law = checks {L = Anything} (typed_does least places w None law tt) λ types t b n more is _. tt
 
@@ -400,14 +401,14 @@ module _ (here : Here) where
   IsLawfulAlternative places (Some other) = LawfulStatement places other
 
   alternative_does : (least : Reached) (places : List Place) (other : Option (Passing (Unit {0}))) → IsLawfulAlternative places other
-      → Does here least (Covers 0 places) (alternative other) Anything
+      → PassingDoes here least (Covers 0 places) (alternative other) Anything
   unfolding alternative
   alternative_does least places None law =
       sited (λ sites none. subst (Covers 0 places) (sym none) (covers_none 0 places)) (pure_does {K = Anything} tt (λ n h. tt))
   alternative_does least places (Some other) law = quietly (mark_does Else refl refl refl refl (λ n h. refl)) λ _ now _ _. law.passes now
 
   tested_does : (least : Reached) (place : Place) (places : List Place) (w : Written) → LawfulWritten here places w
-      → Does here least (Covers 0 (place ∷ places)) (tested place w) Anything
+      → PassingDoes here least (Covers 0 (place ∷ places)) (tested place w) Anything
   unfolding tested
   tested_does least place places w law =
       sited (λ sites. covers_skip 0 place places sites)
@@ -445,7 +446,7 @@ module _ (here : Here) where
   }
 
   repeat_does : (place : Place) (inside tests : List Place) (statements : List (Passing (Unit {0}))) (w : Written)
-      → ((least : Reached) → Does here least (Covers 0 inside) (each (λ s. s) statements) Anything) → LawfulWritten here tests w
+      → ((least : Reached) → PassingDoes here least (Covers 0 inside) (each (λ s. s) statements) Anything) → LawfulWritten here tests w
       → LawfulStatement (place ∷ (inside ++ tests)) (repeat_loop place statements w)
   unfolding repeat_loop
   repeat_does place inside tests statements w row law = record {
@@ -462,7 +463,7 @@ module _ (here : Here) where
   -- the test of a bound stands before its first token's own sites
   bound_does : (least : Reached) (control : ℕ) (type_id : TypeId) (places : List Place) (w : Written)
       → LeadsTo here (AtVariable control) [] type_id least → holds least.types scalar.Ordinal type_id ≡ true → LawfulWritten here places w
-      → Does here least (Covers 0 places) (bound control type_id w) Anything
+      → PassingDoes here least (Covers 0 places) (bound control type_id w) Anything
   unfolding bound
   bound_does least control type_id places w led held law =
       joins (covers_test here kind.Subrange (omega arith) (omega arith) places w law) (site_does kind.Subrange w.first) λ id there one known.
@@ -487,7 +488,7 @@ module _ (here : Here) where
 
   for_head_does : (least : Reached) (place : Place) (name : Name) (firsts lasts : List Place) (first : Written) (d : SyntaxDirection) (end : Written)
       → LawfulWritten here firsts first → LawfulWritten here lasts end
-      → Does here least (Covers 0 (place ∷ name.place ∷ (firsts ++ lasts))) (for_head place name first d end) Anything
+      → PassingDoes here least (Covers 0 (place ∷ name.place ∷ (firsts ++ lasts))) (for_head place name first d end) Anything
   unfolding for_head
   for_head_does least place name firsts lasts first d end one two =
       sited (λ sites has. covers_skip 0 place (name.place ∷ (firsts ++ lasts)) sites (covers_skip 0 name.place (firsts ++ lasts) sites has))
@@ -539,7 +540,7 @@ module _ (here : Here) where
   -- ---- cases
 
   case_head_does : (least : Reached) (place : Place) (places : List Place) (w : Written) → LawfulWritten here places w
-      → Does here least (Covers 0 (place ∷ places)) (case_head place w) Anything
+      → PassingDoes here least (Covers 0 (place ∷ places)) (case_head place w) Anything
   unfolding case_head
   case_head_does least place places w law =
       led_covers here 0 place places (kind.Case ∷ []) (omega arith, tt)
@@ -550,7 +551,7 @@ module _ (here : Here) where
 
   case_does : (place : Place) (tests inside : List Place) (w : Written) (arms : List (List Constant × Passing (Unit {0})))
       → LawfulWritten here tests w
-      → ((least : Reached) (type_id : TypeId) → Does here least (Covers 0 inside) (case_arms type_id [] arms) Anything)
+      → ((least : Reached) (type_id : TypeId) → PassingDoes here least (Covers 0 inside) (case_arms type_id [] arms) Anything)
       → LawfulStatement (place ∷ (tests ++ inside)) (case_statement place w arms)
   unfolding case_body
   case_does place tests inside w arms law row = record {
@@ -583,7 +584,7 @@ abbrev bare_row : List WithStmt → List Stmt
 bare_row ys = map (λ (y : WithStmt). y.0) ys
 
 row_lawful : (here : Here) (ys : List WithStmt) (least : Reached)
-    → Does here least (Covers 0 (joined_places (map stmt_places (bare_row ys)))) (each (λ s. s) (map statement (bare_row ys))) Anything
+    → PassingDoes here least (Covers 0 (joined_places (map stmt_places (bare_row ys)))) (each (λ s. s) (map statement (bare_row ys))) Anything
 row_lawful here [] least = pure_does tt (λ n h. tt)
 row_lawful here (y ∷ ys) least =
     joins (covers_both 0 (stmt_places y.0) (joined_places (map stmt_places (bare_row ys)))) ((y.1 here).passes least) λ _ now _ _.
@@ -593,7 +594,7 @@ abbrev arms_row : List (Vec Constant Global) → List WithStmt → List Place
 arms_row rows ys = flat_map arm_places (arms_of rows (map stmt_places (bare_row ys)))
 
 arms_lawful : (here : Here) (rows : List (Vec Constant Global)) (ys : List WithStmt) (type_id : TypeId) (before : List ℤ) (least : Reached)
-    → Does here least (Covers 0 (arms_row rows ys)) (case_arms type_id before (arms_of rows (map statement (bare_row ys)))) Anything
+    → PassingDoes here least (Covers 0 (arms_row rows ys)) (case_arms type_id before (arms_of rows (map statement (bare_row ys)))) Anything
 arms_lawful here [] ys type_id before least = pure_does tt (λ n h. tt)
 arms_lawful here (row ∷ rows) [] type_id before least = pure_does tt (λ n h. tt)
 arms_lawful here (row ∷ rows) (y ∷ ys) type_id before least =
@@ -655,7 +656,7 @@ pub statement_lawful : (here : Here) (w : Stmt) → LawfulStatement here (stmt_p
 statement_lawful here w = every_statement w here
 
 pub statements_lawful : (here : Here) (ws : List Stmt) (least : Reached)
-    → Does here least (Covers 0 (flat_map stmt_places ws)) (each (λ s. s) (map statement ws)) Anything
+    → PassingDoes here least (Covers 0 (flat_map stmt_places ws)) (each (λ s. s) (map statement ws)) Anything
 statements_lawful here [] least = pure_does tt (λ n h. tt)
 statements_lawful here (w ∷ ws) least =
     joins (covers_both 0 (stmt_places w) (flat_map stmt_places ws)) ((statement_lawful here w).passes least) λ _ now _ _.

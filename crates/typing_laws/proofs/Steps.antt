@@ -48,13 +48,13 @@ use Rattle.typing_laws.proofs.Opened.{one_opened, open_in, opened_then}
 use Rattle.typing_laws.specs.Opened.{mark_opened}
 
 -- a form has grown what is known, with such sites, and its answer has this
-abbrev pub Leaves : {A : Type 0} → Here → (List Stood → Type 0) → Passed → (A → Reached → Type 0) → After A → Type 0
-Leaves here Has s Answers a = Grown here a.look s a.passed × Sited Has s a.passed × Answers a.answer (reached a.passed)
+abbrev pub PassingLeaves : {A : Type 0} → Here → (List Stood → Type 0) → Passed → (A → Reached → Type 0) → After A → Type 0
+PassingLeaves here Has s Answers a = Grown here a.look s a.passed × Sited Has s a.passed × Answers a.answer (reached a.passed)
 
 -- from at least so far on, its answer has this with as many sites and types as there are then
-pub record Does (here : Here) (least : Reached) {A : Type 0} (Has : List Stood → Type 0) (p : Passing A)
+pub record PassingDoes (here : Here) (least : Reached) {A : Type 0} (Has : List Stood → Type 0) (p : Passing A)
     (Answers : A → Reached → Type 0) : Type 0 where
-  pub does : (s : Passed) (a : After A) → p s ≡ Ok a → Fine here s → IsFurther least (reached s) → Leaves here Has s Answers a
+  pub does : (s : Passed) (a : After A) → p s ≡ Ok a → Fine here s → IsFurther least (reached s) → PassingLeaves here Has s Answers a
 
 abbrev pub Anything : {A : Type 0} → A → Reached → Type 0
 Anything answer now = Unit {0}
@@ -86,8 +86,8 @@ split_if false fault a b h = absurd cc
 
 pub joins : {here : Here} {least : Reached} {A B : Type 0} {First Second Both : List Stood → Type 0} {p : Passing A} {f : A → Passing B}
     {K : A → Reached → Type 0} {L : B → Reached → Type 0}
-    → ((a b : List Stood) → First a → Second b → Both (a ++ b)) → Does here least First p K
-    → ((x : A) (now : Reached) → IsFurther least now → K x now → Does here now Second (f x) L) → Does here least Both (p >>= f) L
+    → ((a b : List Stood) → First a → Second b → Both (a ++ b)) → PassingDoes here least First p K
+    → ((x : A) (now : Reached) → IsFurther least now → K x now → PassingDoes here now Second (f x) L) → PassingDoes here least Both (p >>= f) L
 joins {here} {least} {A} {B} {First} {Second} {Both} {p} {f} {K} {L} joined first rest = record {
   does = λ s b is fine h.
       let x = split (p s) (λ a. behind_marks a.look (f a.answer a.passed)) b is in
@@ -95,30 +95,30 @@ joins {here} {least} {A} {B} {First} {Second} {Both} {p} {f} {K} {L} joined firs
       let one = first.does s x.0 x.1 fine h in
       let now : IsFurther least (reached x.0.passed) = further_still h (further one.0.way) in
       let two = (rest x.0.answer (reached x.0.passed) now one.2).does x.0.passed y.0 y.1 (fine_later one.0 fine) as_far in
-      subst (Leaves here Both s L) y.2 (grown_then one.0 two.0, sited_then joined one.1 two.1, two.2);
+      subst (PassingLeaves here Both s L) y.2 (grown_then one.0 two.0, sited_then joined one.1 two.1, two.2);
 }
 
 -- a step that adds no site, and then others
 pub quietly : {here : Here} {least : Reached} {A B : Type 0} {Has : List Stood → Type 0} {p : Passing A} {f : A → Passing B}
     {K : A → Reached → Type 0} {L : B → Reached → Type 0}
-    → Does here least Nothing p K
-    → ((x : A) (now : Reached) → IsFurther least now → K x now → Does here now Has (f x) L) → Does here least Has (p >>= f) L
+    → PassingDoes here least Nothing p K
+    → ((x : A) (now : Reached) → IsFurther least now → K x now → PassingDoes here now Has (f x) L) → PassingDoes here least Has (p >>= f) L
 quietly {Has = Has} first rest = joins (λ a b none has. subst (λ l. Has (l ++ b)) (sym none) has) first rest
 
 -- a step, and then others that add no site
 pub last : {here : Here} {least : Reached} {A B : Type 0} {Has : List Stood → Type 0} {p : Passing A} {f : A → Passing B}
     {K : A → Reached → Type 0} {L : B → Reached → Type 0}
-    → Does here least Has p K
-    → ((x : A) (now : Reached) → IsFurther least now → K x now → Does here now Nothing (f x) L) → Does here least Has (p >>= f) L
+    → PassingDoes here least Has p K
+    → ((x : A) (now : Reached) → IsFurther least now → K x now → PassingDoes here now Nothing (f x) L) → PassingDoes here least Has (p >>= f) L
 last {Has = Has} first rest = joins (λ a b has none. subst Has (sym (append-nil a) ∙ ap (λ l. a ++ l) (sym none)) has) first rest
 
 -- a form, and then a test of what it is, by the table of types
 pub checks_types : {here : Here} {least : Reached} {A B : Type 0} {Has : List Stood → Type 0} {p : Passing A} {test : List Form → A → Checked B}
     {K : A → Reached → Type 0} {L : B → Reached → Type 0}
-    → Does here least Has p K
+    → PassingDoes here least Has p K
     → ((types : List Form) (x : A) (b : B) (now : Reached) → IsFurther least now → now.types ≡ types → AreLawful types → test types x ≡ Ok b
     → K x now → L b now)
-    → Does here least Has (p >>? test) L
+    → PassingDoes here least Has (p >>? test) L
 checks_types {here} {least} {A} {B} {Has} {p} {test} {K} {L} first fits = record {
   does = λ s b is fine h.
       let x = split (p s) (λ a. and_then (test a.passed.types a.answer) (λ b. Ok (after b a.look a.passed))) b is in
@@ -126,22 +126,22 @@ checks_types {here} {least} {A} {B} {Has} {p} {test} {K} {L} first fits = record
       let one = first.does s x.0 x.1 fine h in
       let same : after y.0 x.0.look x.0.passed ≡ b = cc in
       let known = further_still h (further one.0.way) in
-      subst (Leaves here Has s L) same
+      subst (PassingLeaves here Has s L) same
       (one.0, one.1, fits x.0.passed.types x.0.answer y.0 (reached x.0.passed) known refl one.0.lawful y.1 one.2);
 }
 
 -- whatever they are
 pub checks : {here : Here} {least : Reached} {A B : Type 0} {Has : List Stood → Type 0} {p : Passing A} {test : List Form → A → Checked B}
     {K : A → Reached → Type 0} {L : B → Reached → Type 0}
-    → Does here least Has p K
+    → PassingDoes here least Has p K
     → ((types : List Form) (x : A) (b : B) (now : Reached) → IsFurther least now → test types x ≡ Ok b → K x now → L b now)
-    → Does here least Has (p >>? test) L
+    → PassingDoes here least Has (p >>? test) L
 checks first fits = checks_types first (λ types x b now later same lawful. fits types x b now later)
 
 -- the same, with something else that holds of its sites
 pub sited : {here : Here} {least : Reached} {A : Type 0} {Has Had : List Stood → Type 0} {p : Passing A} {K : A → Reached → Type 0}
     → ((a : List Stood) → Has a → Had a)
-    → Does here least Has p K → Does here least Had p K
+    → PassingDoes here least Has p K → PassingDoes here least Had p K
 sited has d = record {
   does = λ s a is fine h.
       let k = d.does s a is fine h in
@@ -151,7 +151,7 @@ sited has d = record {
 -- the same, with something else that holds of its answer
 pub answered : {here : Here} {least : Reached} {A : Type 0} {Has : List Stood → Type 0} {p : Passing A} {K L : A → Reached → Type 0}
     → ((x : A) (now : Reached) → K x now → L x now)
-    → Does here least Has p K → Does here least Has p L
+    → PassingDoes here least Has p K → PassingDoes here least Has p L
 answered other d = record {
   does = λ s a is fine h.
       let k = d.does s a is fine h in
@@ -160,7 +160,7 @@ answered other d = record {
 
 -- and what has come so far
 pub further_answered : {here : Here} {least : Reached} {A : Type 0} {Has : List Stood → Type 0} {p : Passing A} {K L : A → Reached → Type 0}
-    → Does here least Has p K → ((x : A) (now : Reached) → IsFurther least now → K x now → L x now) → Does here least Has p L
+    → PassingDoes here least Has p K → ((x : A) (now : Reached) → IsFurther least now → K x now → L x now) → PassingDoes here least Has p L
 further_answered d other = record {
   does = λ s a is fine h.
       let k = d.does s a is fine h in
@@ -190,15 +190,15 @@ grown_plain way lawful texts = record {
 -- a step that leaves the types, the texts, the sites and the points
 pub silent_leaves : {here : Here} {A : Type 0} (K : A → Reached → Type 0) {s new : Passed} {x : A} {a : After A} → after x [] new ≡ a
     → Way true Nobody 0 0 [] s new → new.types ≡ s.types → new.texts ≡ s.texts → new.sites ≡ s.sites → new.points ≡ s.points → Fine here s
-    → K x (reached new) → Leaves here Nothing s K a
+    → K x (reached new) → PassingLeaves here Nothing s K a
 silent_leaves {here} K {s = s} same way types texts sites points fine known =
-    subst (Leaves here Nothing s K) same (
+    subst (PassingLeaves here Nothing s K) same (
       grown_plain way (subst AreLawful (sym types) fine.lawful) (subst AreTexts (sym texts) fine.texts),
       no_sites sites points,
       known,
     )
 
-pub pass_does : {here : Here} {least : Reached} (place : Place) → Does here least Nothing (pass place) Anything
+pub pass_does : {here : Here} {least : Reached} (place : Place) → PassingDoes here least Nothing (pass place) Anything
 unfolding pass
 pass_does place = record {
   does = λ s a is fine h.
@@ -207,13 +207,13 @@ pass_does place = record {
 }
 
 pub pure_does : {here : Here} {least : Reached} {A : Type 0} {K : A → Reached → Type 0} (x : A)
-    → ((now : Reached) → IsFurther least now → K x now) → Does here least Nothing (pure x) K
+    → ((now : Reached) → IsFurther least now → K x now) → PassingDoes here least Nothing (pure x) K
 pure_does {K = K} x known = record {
   does = λ s a is fine h. let same : after x [] s ≡ a = cc in silent_leaves K same Stay refl refl refl refl fine (known (reached s) h);
 }
 
 pub given_does : {here : Here} {least : Reached} {A : Type 0} (checked : Checked A)
-    → Does here least Nothing (given checked) (λ x now. checked ≡ Ok x)
+    → PassingDoes here least Nothing (given checked) (λ x now. checked ≡ Ok x)
 given_does checked = record {
   does = λ s a is fine h.
       let x = split checked (λ b. Ok (after b [] s)) a is in
@@ -222,7 +222,7 @@ given_does checked = record {
 }
 
 pub by_types_does : {here : Here} {least : Reached} {A : Type 0} (test : List Form → Checked A)
-    → Does here least Nothing (by_types test) (λ x now. AreLawful now.types × (test now.types ≡ Ok x))
+    → PassingDoes here least Nothing (by_types test) (λ x now. AreLawful now.types × (test now.types ≡ Ok x))
 by_types_does test = record {
   does = λ s a is fine h.
       let x = split (test s.types) (λ b. Ok (after b [] s)) a is in
@@ -231,7 +231,7 @@ by_types_does test = record {
 }
 
 pub fail_does : {here : Here} {least : Reached} {A : Type 0} {Has : List Stood → Type 0} {K : A → Reached → Type 0} (why : TypeFault)
-    → Does here least Has (fail {A = A} why) K
+    → PassingDoes here least Has (fail {A = A} why) K
 fail_does why = record { does = λ s a is fine h. absurd cc }
 
 -- what is denoted in a block is sound there
@@ -243,7 +243,7 @@ IsFound here denotation now = IsSoundThen here denotation now × StandsIn here n
 
 -- a name denotes what is sound
 pub find_does : {here : Here} {least : Reached} (name : Name)
-    → Does here least Nothing (find name) (λ denotation now. IsFound here denotation now)
+    → PassingDoes here least Nothing (find name) (λ denotation now. IsFound here denotation now)
 unfolding find
 find_does {here} name = record {
   does = λ s a is fine h.
@@ -258,7 +258,7 @@ find_does {here} name = record {
     by (Ok d) e is = let same : d ≡ e = cc in ap Ok same
     by (Err why) e is = absurd cc
 
-pub wants_file_does : {here : Here} {least : Reached} (one : File) (place : Place) → Does here least Nothing (wants_file one place) Anything
+pub wants_file_does : {here : Here} {least : Reached} (one : File) (place : Place) → PassingDoes here least Nothing (wants_file one place) Anything
 unfolding wants_file
 wants_file_does {here} one place = record {
   does = λ s a is fine h.
@@ -284,11 +284,11 @@ IsOpenedIn here one = mark_opened one (open_in here) ≡ Some (open_in here)
 marked_does : {here : Here} {least : Reached} (one : Mark) → numbers_of one ≡ ([], [], []) → is_bracket one ≡ false → IsOpenedIn here one
     → ((now : Reached) → IsFurther least now → Each (MayChange here now) (mark_changes one ++ [])) → mark_controls one ≡ []
     → ((o : Outline) → IsFurther least (whole_of o) → is_formed_mark o here.block one ≡ true)
-    → Does here least Nothing (mark one) Anything
+    → PassingDoes here least Nothing (mark one) Anything
 marked_does {here} {least} one none plain opens changes no_control formed = record {
   does = λ s a is fine h.
       let same : after tt (one ∷ []) s ≡ a = cc in
-      subst (Leaves here Nothing s Anything) same (
+      subst (PassingLeaves here Nothing s Anything) same (
         record {
           way = One (Marked one none);
           lawful = fine.lawful;
@@ -312,7 +312,7 @@ no_control other none = refl
 pub mark_does : {here : Here} {least : Reached} (one : Mark) → numbers_of one ≡ ([], [], []) → mark_changes one ≡ [] → is_bracket one ≡ false
     → IsOpenedIn here one
     → ((o : Outline) → IsFurther least (whole_of o) → is_formed_mark o here.block one ≡ true)
-    → Does here least Nothing (mark one) Anything
+    → PassingDoes here least Nothing (mark one) Anything
 mark_does {here} one none no_change plain opens formed =
     marked_does one none plain opens (λ now more. subst (λ (l : List ℕ). Each (MayChange here now) (l ++ [])) (sym no_change) tt)
     (no_control one no_change) formed
@@ -320,7 +320,7 @@ mark_does {here} one none no_change plain opens formed =
 -- one that changes a variable
 pub change_does : {here : Here} {least : Reached} (one : Mark) (root : ℕ) → numbers_of one ≡ ([], [], []) → mark_changes one ≡ root ∷ []
     → mark_controls one ≡ [] → is_bracket one ≡ false → IsOpenedIn here one → MayChange here least root
-    → ((o : Outline) → IsFurther least (whole_of o) → is_formed_mark o here.block one ≡ true) → Does here least Nothing (mark one) Anything
+    → ((o : Outline) → IsFurther least (whole_of o) → is_formed_mark o here.block one ≡ true) → PassingDoes here least Nothing (mark one) Anything
 change_does {here} {least} one root none change no_control plain opens may formed =
     marked_does one none plain opens
     (λ now more. subst (λ (l : List ℕ). Each (MayChange here now) (l ++ [])) (sym change) (change_later here least now root more may, tt)) no_control formed
@@ -331,7 +331,7 @@ pub enter_does : {here : Here} {least : Reached} (marked : ℕ → Mark) → ((k
     → ((k : ℕ) → is_bracket (marked k) ≡ false)
     → ((k : ℕ) → IsOpenedIn here (marked k))
     → ((k : ℕ) (o : Outline) → IsFurther least (whole_of o) → is_formed_mark o here.block (marked k) ≡ true)
-    → Does here least Nothing (enter_as marked) Anything
+    → PassingDoes here least Nothing (enter_as marked) Anything
 unfolding enter
 enter_does {here} {least} marked entry no_change plain opens formed = record {
   does = λ s a is fine h.
@@ -341,7 +341,7 @@ enter_does {here} {least} marked entry no_change plain opens formed = record {
       let new : Passed = record s { entries = s.entries + 1 } in
       let number = s.entries in
       let same : after tt (marked s.entries ∷ []) new ≡ a = by x.0 a y.1 x.2 in
-      subst (Leaves here Nothing s Anything) same (
+      subst (PassingLeaves here Nothing s Anything) same (
         record {
           way = One (Entry (marked number) (below most_entries s.entries y.0) (entry number));
           lawful = fine.lawful;
@@ -370,7 +370,7 @@ enter_loop_at : {here : Here} (marked : ℕ → ℕ → Mark) → ((k l : ℕ) �
     → ((k l : ℕ) → Each (MayChange here (reached s)) (mark_changes (marked k l) ++ []))
     → ((k l : ℕ) (new : Passed) → new.variables ≡ s.variables → Each (IsFree here s new) (mark_controls (marked k l) ++ []))
     → ((k l : ℕ) (o : Outline) → IsFurther (reached s) (whole_of o) → is_formed_mark o here.block (marked k l) ≡ true)
-    → Fine here s → enter_loop marked s ≡ Ok a → Leaves here Nothing s Anything a
+    → Fine here s → enter_loop marked s ≡ Ok a → PassingLeaves here Nothing s Anything a
 unfolding begin_loop enter
 enter_loop_at {here} marked loop plain opens s a changes controls formed fine is = by (nat_le most_entries s.entries) refl is
   where
@@ -379,13 +379,13 @@ enter_loop_at {here} marked loop plain opens s a changes controls formed fine is
         (if test then Err (fault.TooMany s.latest) else Ok (after s.loops [] (record s { entries = s.entries + 1; loops = s.loops + 1 })))
         (λ l. behind_marks {A = ℕ × ℕ} l.look (pure {A = ℕ × ℕ} (s.entries, l.answer) l.passed))))
         (λ b. behind_marks b.look (mark (marked b.answer.0 b.answer.1) b.passed)) ≡ Ok a
-        → Leaves here Nothing s Anything a
+        → PassingLeaves here Nothing s Anything a
     numbered few true test is = absurd cc
     numbered few false test is =
         let new : Passed = record s { entries = s.entries + 1; loops = s.loops + 1 } in
         let made = marked s.entries s.loops in
         let same : after tt (made ∷ []) new ≡ a = cc in
-        subst (Leaves here Nothing s Anything) same (
+        subst (PassingLeaves here Nothing s Anything) same (
           record {
             way = One (Loop made few (below most_numbered s.loops test) (loop s.entries s.loops));
             lawful = fine.lawful;
@@ -405,7 +405,7 @@ enter_loop_at {here} marked loop plain opens s a changes controls formed fine is
         → and_then (and_then (if test then Err (fault.TooMany s.latest) else Ok (after s.entries [] (record s { entries = s.entries + 1 })))
         (λ b. behind_marks {A = ℕ × ℕ} b.look ((number_loop >>= (λ l. pure {A = ℕ × ℕ} (b.answer, l))) b.passed)))
         (λ b. behind_marks b.look (mark (marked b.answer.0 b.answer.1) b.passed)) ≡ Ok a
-        → Leaves here Nothing s Anything a
+        → PassingLeaves here Nothing s Anything a
     by true test is = absurd cc
     by false test is = numbered (below most_entries s.entries test) (nat_le most_numbered s.loops) refl is
 
@@ -414,7 +414,7 @@ pub enter_loop_does : {here : Here} {least : Reached} (marked : ℕ → ℕ → 
     → ((k l : ℕ) → is_bracket (marked k l) ≡ false)
     → ((k l : ℕ) → IsOpenedIn here (marked k l))
     → ((k l : ℕ) (o : Outline) → IsFurther least (whole_of o) → is_formed_mark o here.block (marked k l) ≡ true)
-    → Does here least Nothing (enter_loop marked) Anything
+    → PassingDoes here least Nothing (enter_loop marked) Anything
 enter_loop_does {here} {least} marked loop no_change plain opens formed = record {
   does = λ s a is fine h.
       enter_loop_at marked loop plain opens s a
@@ -428,14 +428,15 @@ enter_loop_does {here} {least} marked loop no_change plain opens formed = record
 -- a variable of this block or of one round it, which may be changed from here on
 pub may_change_does : {here : Here} {least : Reached} (place : Place) (root : ℕ) (type_id : TypeId)
     → IsVariable here least.variables least.types root type_id
-    → Does here least Nothing (may_change place root) (λ _ now. MayChange here now root)
+    → PassingDoes here least Nothing (may_change place root) (λ _ now. MayChange here now root)
 unfolding may_change
 may_change_does {here} {least} place root type_id known = record {
   does = λ s a is fine h.
       let x = split_unless (list_any (λ control. nat_eq control root) s.controls) (fault.Threatened place) (after tt [] (with_threatened root s)) a is in
       let there = get_longer h.variables root known.variable known.is_there in
       let apart = ap not x.0 in
-      subst (Leaves here Nothing s (λ _ now. MayChange here now root)) x.1 (by s (is_own s.enclosing.block (slice_get s.variables root)) refl fine there apart);
+      subst (PassingLeaves here Nothing s (λ _ now. MayChange here now root)) x.1 (by s (is_own s.enclosing.block (slice_get s.variables root)) refl fine there
+      apart);
 }
   where
     added : (roots : List ℕ) (root : ℕ) → list_any (nat_eq root) (with_one roots root) ≡ true
@@ -460,7 +461,7 @@ may_change_does {here} {least} place root type_id known = record {
 
     by : (s : Passed) (test : Bool) → is_own s.enclosing.block (slice_get s.variables root) ≡ test → Fine here s
         → slice_get s.variables root ≡ Some known.variable → not (list_any (λ control. nat_eq control root) s.controls) ≡ true
-        → Leaves here Nothing s (λ _ now. MayChange here now root)
+        → PassingLeaves here Nothing s (λ _ now. MayChange here now root)
         (after (tt {0}) [] (if test then s else record s { threatened = with_one s.threatened root }))
     by s true own fine there apart =
         silent_leaves (λ (_ : Unit {0}) now. MayChange here now root) refl Stay refl refl refl refl fine (record {
@@ -488,8 +489,8 @@ pub controlled_does : {here : Here} {least : Reached} {B : Type 0} {Has : List S
     → ((k l : ℕ) → IsOpenedIn here (marked k l)) → MayChange here least root
     → ((now : Reached) → IsFurther least now → is_local here.block (slice_get now.variables root) ≡ true → (k l : ℕ) (o : Outline)
     → IsFurther now (whole_of o) → is_formed_mark o here.block (marked k l) ≡ true)
-    → ((now : Reached) → IsFurther least now → Does here now Has rest L)
-    → Does here least Has (may_control place root >>= (λ _. enter_loop marked >>= (λ _. rest))) L
+    → ((now : Reached) → IsFurther least now → PassingDoes here now Has rest L)
+    → PassingDoes here least Has (may_control place root >>= (λ _. enter_loop marked >>= (λ _. rest))) L
 unfolding may_control
 controlled_does {here} {least} {B} {Has} {L} place root marked rest loop changes controls plain opens may formed law = record {
   does = λ s b is fine h.
@@ -516,10 +517,10 @@ controlled_does {here} {least} {B} {Has} {L} place root marked rest loop changes
       (λ k l o more. formed (reached s) h local k l o more) fine u.1 in
       let now : IsFurther least (reached u.0.passed) = further_still h (further first.0.way) in
       let second = (law (reached u.0.passed) now).does u.0.passed v.0 v.1 (fine_later first.0 fine) as_far in
-      let both : Leaves here Has s L y.0 =
-      subst (Leaves here Has s L) v.2
+      let both : PassingLeaves here Has s L y.0 =
+      subst (PassingLeaves here Has s L) v.2
       (grown_then first.0 second.0, sited_then (λ p q none has. subst (λ l. Has (l ++ q)) (sym none) has) first.1 second.1, second.2) in
-      subst (Leaves here Has s L) quiet both;
+      subst (PassingLeaves here Has s L) quiet both;
 }
   where
     first_of : (a b : Bool) → (a && b) ≡ true → a ≡ true
@@ -655,7 +656,7 @@ fine_inside s controls fine = record {
 
 -- the statement of a for changes neither its control variable nor one of those round it
 pub for_body_does : {here : Here} {least : Reached} {Has : List Stood → Type 0} (root : ℕ) (body : Passing (Unit {0}))
-    → ((next : Reached) → Does here next Has body Anything) → Does here least Has (for_body root body) Anything
+    → ((next : Reached) → PassingDoes here next Has body Anything) → PassingDoes here least Has (for_body root body) Anything
 unfolding for_body begin_control end_control
 for_body_does {here} {least} {Has} root body law = record {
   does = λ s a is fine h.
@@ -671,25 +672,25 @@ for_body_does {here} {least} {Has} root body law = record {
       let whole : after tt (Controls root ∷ (b.look ++ (ForEnds ∷ []))) behind ≡ a =
       ap (λ (e : After (Unit {0})). after e.answer (Controls root ∷ e.look) e.passed) ended ∙ y.2 ∙ x.2 in
       let one = (law (reached start)).does start b z.1 (fine_inside s (s.controls ++ root ∷ []) fine) as_far in
-      subst (Leaves here Has s Anything) whole
+      subst (PassingLeaves here Has s Anything) whole
       (grown_bracketed root b.look s b.passed one.0, record { added = one.1.added; sites = one.1.sites; points = one.1.points; covered = one.1.covered }, tt);
 }
   where
     ok_same : {b c : After (Unit {0})} → ◌≡◌ {A = Checked (After (Unit {0}))} (Ok b) (Ok c) → b ≡ c
     ok_same h = cc
 
-pub host_type_does : {here : Here} {least : Reached} (id : TypeId) → Does here least Nothing (host_type id) Anything
+pub host_type_does : {here : Here} {least : Reached} (id : TypeId) → PassingDoes here least Nothing (host_type id) Anything
 unfolding host_type
 host_type_does {here} {least} id = record {
   does = λ s a is fine h.
-      let answers : Does here least Nothing (pure (host_of s.types id)) Anything = pure_does (host_of s.types id) (λ n more. tt) in
+      let answers : PassingDoes here least Nothing (pure (host_of s.types id)) Anything = pure_does (host_of s.types id) (λ n more. tt) in
       answers.does s a is fine h;
 }
 
 -- ---- blocks
 
 pub enclosing_now_does : {here : Here} {least : Reached}
-    → Does here least Nothing enclosing_now (λ enclosing now. (enclosing.block ≡ here.block) × (enclosing.around ≡ here.around))
+    → PassingDoes here least Nothing enclosing_now (λ enclosing now. (enclosing.block ≡ here.block) × (enclosing.around ≡ here.around))
 unfolding enclosing_now
 enclosing_now_does {here} = record {
   does = λ s a is fine h.
@@ -699,7 +700,7 @@ enclosing_now_does {here} = record {
 
 -- the heading of a block that was passed tells what is so
 pub heading_at_does : {here : Here} {least : Reached} (block : ℕ) (signature : Signature) → slice_get least.headings block ≡ Some signature
-    → Does here least Nothing (heading_at block) (λ headed now. (signature_passed headed ≡ signature) × FitsHeading now block signature)
+    → PassingDoes here least Nothing (heading_at block) (λ headed now. (signature_passed headed ≡ signature) × FitsHeading now block signature)
 unfolding heading_at
 heading_at_does {here} block signature there = record {
   does = λ s a is fine h.
@@ -712,7 +713,7 @@ heading_at_does {here} block signature there = record {
 }
 
 pub variable_at_does : {here : Here} {least : Reached} (root : ℕ)
-    → Does here least Nothing (variable_at root) (λ found now. slice_get now.variables root ≡ found)
+    → PassingDoes here least Nothing (variable_at root) (λ found now. slice_get now.variables root ≡ found)
 unfolding variable_at
 variable_at_does {here} root = record {
   does = λ s a is fine h.
@@ -751,7 +752,7 @@ grown_assigned {here} {look} {s} {new} root told g = record {
 -- ---- texts
 
 pub text_at_does : {here : Here} {least : Reached} (number : ℕ)
-    → Does here least Nothing (text_at number) (λ text now. are_characters text ≡ true)
+    → PassingDoes here least Nothing (text_at number) (λ text now. are_characters text ≡ true)
 unfolding text_at
 text_at_does {here} {least} number = record {
   does = λ s a is fine h.
@@ -760,27 +761,27 @@ text_at_does {here} {least} number = record {
 }
 
 pub keep_text_does : {here : Here} {least : Reached} (text : List ℕ) → are_characters text ≡ true
-    → Does here least Nothing (keep_text text) Anything
+    → PassingDoes here least Nothing (keep_text text) Anything
 unfolding keep_text
 keep_text_does {here} {least} text is_text = record {
   does = λ s a is fine h.
       let new : Passed = record s { texts = s.texts ++ text ∷ [] } in
       let same : after (length s.texts) [] new ≡ a = cc in
-      subst (Leaves here Nothing s Anything) same
+      subst (PassingLeaves here Nothing s Anything) same
       (grown_plain (One (Text text)) fine.lawful (texts_more s.texts text fine.texts is_text), no_sites refl refl, tt);
 }
 
 -- ---- sites
 
 pub site_does : {here : Here} {least : Reached} (kind : SiteKind) (place : Place)
-    → Does here least (λ added. added ≡ (Some kind, place) ∷ []) (site kind place) (λ id now. id < now.sites)
+    → PassingDoes here least (λ added. added ≡ (Some kind, place) ∷ []) (site kind place) (λ id now. id < now.sites)
 unfolding site
 site_does {here} {least} kind place = record {
   does = λ s a is fine h.
       let new : Passed = record s { sites = s.sites ++ (kind, place) ∷ []; latest = place } in
       let y = split_unless (nat_le most_sites (length s.sites)) (fault.TooMany place) (after (length s.sites) [] new) a is in
       let counted = length-append s.sites ((kind, place) ∷ []) in
-      subst (Leaves here (λ added. added ≡ (Some kind, place) ∷ []) s (λ id now. id < now.sites)) y.1 (
+      subst (PassingLeaves here (λ added. added ≡ (Some kind, place) ∷ []) s (λ id now. id < now.sites)) y.1 (
         grown_plain (One (Site kind place (below most_sites (length s.sites) y.0))) fine.lawful fine.texts,
         record { added = (Some kind, place) ∷ []; sites = refl; points = sym (append-nil s.points); covered = refl },
         omega (arith, counted),
@@ -790,14 +791,14 @@ site_does {here} {least} kind place = record {
 -- ---- points
 
 pub point_does : {here : Here} {least : Reached} (place : Place)
-    → Does here least (λ added. added ≡ (None, place) ∷ []) (point place) (λ id now. id < now.points)
+    → PassingDoes here least (λ added. added ≡ (None, place) ∷ []) (point place) (λ id now. id < now.points)
 unfolding point
 point_does {here} {least} place = record {
   does = λ s a is fine h.
       let new : Passed = record s { points = s.points ++ place ∷ []; latest = place } in
       let y = split_unless (nat_le most_sites (length s.points)) (fault.TooMany place) (after (length s.points) [] new) a is in
       let counted = length-append s.points (place ∷ []) in
-      subst (Leaves here (λ added. added ≡ (None, place) ∷ []) s (λ id now. id < now.points)) y.1 (
+      subst (PassingLeaves here (λ added. added ≡ (None, place) ∷ []) s (λ id now. id < now.points)) y.1 (
         grown_plain (One (Point place (below most_sites (length s.points) y.0))) fine.lawful fine.texts,
         record { added = (None, place) ∷ []; sites = sym (append-nil s.sites); points = refl; covered = refl },
         omega (arith, counted),
@@ -816,7 +817,7 @@ IsKnown None now = Unit {0}
 IsKnown (Some id) now = id < now.sites
 
 pub behind_does : {here : Here} {least : Reached} (lead : Option SiteKind) (place : Place)
-    → Does here least (λ added. added ≡ at_place place (led lead)) (behind lead place) IsKnown
+    → PassingDoes here least (λ added. added ≡ at_place place (led lead)) (behind lead place) IsKnown
 unfolding behind
 behind_does None place = pure_does None (λ now more. tt)
 behind_does (Some kind) place = last (site_does kind place) (λ id now more known. pure_does (Some id) (λ n h. omega (arith, h.sites, known)))

@@ -25,7 +25,7 @@ use Rattle.typing_laws.proofs.Tables.{AreLawful, admitted_few, char_cell, is_str
 use Rattle.typing_laws.proofs.Reached.{Here, Reached, further_still, get_longer, one_longer}
 use Rattle.typing.proofs.Ways.{Owner, Way, One, Then, Typed}
 use Rattle.typing_laws.proofs.Grown.{both_true}
-use Rattle.typing_laws.proofs.Steps.{Does, Nothing, Leaves, IsSoundThen, split, quietly, pure_does, keep_text_does, grown_plain, no_sites}
+use Rattle.typing_laws.proofs.Steps.{PassingDoes, Nothing, PassingLeaves, IsSoundThen, split, quietly, pure_does, keep_text_does, grown_plain, no_sites}
 
 -- ---- tests
 
@@ -179,11 +179,11 @@ abbrev pub IsStringOf : ℕ → TypeId → List Form → Type 0
 IsStringOf n id types = (nat_le n 65536 ≡ true) × (is_string types id ≡ true)
 
 module _ {here : Here} {least : Reached} where
-  pub string_type_does : (place : Place) (n : ℕ) → 1 < n → Does here least Nothing (string_type place n) (λ id now. IsStringOf n id now.types)
+  pub string_type_does : (place : Place) (n : ℕ) → 1 < n → PassingDoes here least Nothing (string_type place n) (λ id now. IsStringOf n id now.types)
   string_type_does place n more = record {
     does = λ s a is fine h.
         let made = string_type_is place n s a more fine.lawful is in
-        subst (Leaves here Nothing s (λ id now. IsStringOf n id now.types)) made.same
+        subst (PassingLeaves here Nothing s (λ id now. IsStringOf n id now.types)) made.same
         (grown_plain made.way made.lawful fine.texts, no_sites refl refl, (made.few, made.string));
   }
 
@@ -196,7 +196,7 @@ char_whole c is = grind (arith, nat_tests)
 module _ {here : Here} {least : Reached} where
   -- two or more characters
   text_does : (place : Place) (cs : List ℕ) → 1 < length cs → list_all is_character cs ≡ true
-      → Does here least Nothing (string_type place (length cs) >>= (λ type_id. keep_text cs >>= (λ number. pure (denotes.Text number type_id))))
+      → PassingDoes here least Nothing (string_type place (length cs) >>= (λ type_id. keep_text cs >>= (λ number. pure (denotes.Text number type_id))))
       (λ d now. IsSoundThen here d now)
   text_does place cs more all =
       quietly (string_type_does place (length cs) more) λ type_id _ _ made.
@@ -204,7 +204,7 @@ module _ {here : Here} {least : Reached} where
       pure_does (denotes.Text number type_id) (λ n h. is_string_longer (further_still one h).types type_id made.1)
 
   pub string_constant_does : (place : Place) (cs : List ℕ) → AreOfChar cs
-      → Does here least Nothing (string_constant place cs) (λ d now. IsSoundThen here d now)
+      → PassingDoes here least Nothing (string_constant place cs) (λ d now. IsSoundThen here d now)
   unfolding string_constant
   string_constant_does place [] all = absurd (no_characters all)
   string_constant_does place (c ∷ []) all = pure_does (denotes.Constant (pos c) char) (λ n h. char_whole c all.1)

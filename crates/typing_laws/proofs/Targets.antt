@@ -32,7 +32,7 @@ use Rattle.typing_laws.proofs.Reached.{Signature, signature_passed, Reached, fur
 use Rattle.typing_laws.proofs.Reached.{mapped_longer, stands_later, as_far, reached}
 use Rattle.typing_laws.proofs.Sound.{IsVariable, IsRoutine, routine_longer, or_right}
 use Rattle.typing_laws.proofs.Opened.{open_in, stands_there}
-use Rattle.typing_laws.proofs.Steps.{Does, Anything, Nothing, IsFound, quietly, last, pure_does, find_does, enter_does}
+use Rattle.typing_laws.proofs.Steps.{PassingDoes, Anything, Nothing, IsFound, quietly, last, pure_does, find_does, enter_does}
 use Rattle.typing_laws.proofs.Steps.{may_change_does, change_does, split, fine_with_result, grown_assigned}
 use Rattle.typing_laws.proofs.Accesses.{LeadsTo, AreLawfulRows, IsDenoted, entire_denoted, kind_now_does, leads_later, selected_does, scalar_formed}
 use Rattle.typing_laws.proofs.Accesses.{variable_does, whole_formed}
@@ -48,7 +48,7 @@ accessed_by origin component = record { origin = origin; selectors = component.0
 module _ (here : Here) where
   target_formed : {least : Reached} (origin : Origin) (selectors : List TreeSelector) (id : TypeId) (found : Option TypeKind)
       → LeadsTo here origin selectors id least → kind_of least.types id ≡ found → MayChange here least (root_of origin)
-      → Does here least Nothing (mark (target_mark found origin selectors id)) Anything
+      → PassingDoes here least Nothing (mark (target_mark found origin selectors id)) Anything
   target_formed {least} origin selectors id (Some kind_of_type.Structured) l is may =
       change_does (WholeTarget origin selectors (index_count selectors) id) (root_of origin) refl refl refl refl
       (stands_there (open_in here) (open_in here) origin l.opens) may
@@ -114,7 +114,7 @@ module _ (here : Here) where
 
   access_does : {least : Reached} (name : Name) (selectors : List Selector) (rows : List (List Place)) (ws : List Written) → AreLawfulRows here rows ws
       → (variable : Denoted) → IsDenoted here variable least
-      → Does here least (Covers 0 (selector_places selectors rows)) (access_typing name selectors ws variable) IsAccessed
+      → PassingDoes here least (Covers 0 (selector_places selectors rows)) (access_typing name selectors ws variable) IsAccessed
   access_does {least} name selectors rows ws laws variable found =
       let origin = variable.origin in
       quietly (may_change_does name.place (root_of origin) found.type_id found.of_root) λ _ changed two may.
@@ -131,13 +131,13 @@ module _ (here : Here) where
 
   -- the target of an assignment: a variable, or the result of a function, which is told behind what is assigned
   pub target_does : {least : Reached} (name : Name) (selectors : List Selector) (rows : List (List Place)) (ws : List Written) → AreLawfulRows here rows ws
-      → Does here least (Covers 0 (selector_places selectors rows)) (target name selectors ws) IsAccessed
+      → PassingDoes here least (Covers 0 (selector_places selectors rows)) (target name selectors ws) IsAccessed
   unfolding target
   target_does name selectors rows ws laws = quietly (find_does name) λ d now _ sound. by now d (as_routine d) refl selectors rows laws sound
     where
       by : (now : Reached) (d : Denotation) (found : Option (ℕ × Bool)) → as_routine d ≡ found → (others : List Selector) (places : List (List Place))
           → AreLawfulRows here places ws → IsFound here d now
-          → Does here now (Covers 0 (selector_places others places)) (target_of found others name.place d >>= access_typing name others ws) IsAccessed
+          → PassingDoes here now (Covers 0 (selector_places others places)) (target_of found others name.place d >>= access_typing name others ws) IsAccessed
       by now d None same others places laws sound =
           quietly (variable_does here name.place d sound) λ variable _ _ found. access_does name others places ws laws variable found
       by now d (Some routine) same (selector ∷ others) places laws sound =

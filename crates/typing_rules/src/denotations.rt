@@ -6,7 +6,7 @@ ghost use Rattle.typing_rules.specs.Denotations.{as_control};
 
 use place::Place;
 use scopes::{Denotation, File, RequiredFunction, RequiredProcedure, ScopeFault};
-use typed_tree::fault::TypeFault;
+use typed_tree::TypeFault;
 use types::TypeId;
 
 /// What the scopes answer, at a place.

@@ -7,11 +7,10 @@ ghost use Rattle.typing_rules.specs.Operators.{set_operation_behind, relation_of
 ghost use Rattle.typing_rules.specs.Operators.{relation_behind_value, are_alike, may_compare, may_contain, may_relate};
 ghost use Rattle.typing_rules.specs.Operators.{member_of, member_with_site};
 
-use crate::typed::{Typed, TypedValue};
+use crate::{Typed, TypedValue};
 use place::Place;
 use syntax_tree::{Operator, RelationalOperator, Sign};
-use typed_tree::fault::TypeFault;
-use typed_tree::tree::{Calculation, Dyadic, Monadic, Relation, SetRelation};
+use typed_tree::{Calculation, Dyadic, Monadic, Relation, SetRelation, TypeFault};
 use types::{ArrayElement, TypeId, TypeTable};
 
 /// The operation of a sign (6.7.2.2).

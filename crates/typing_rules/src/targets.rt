@@ -6,11 +6,9 @@ ghost use Rattle.typing_rules.specs.Targets.{way, test_kind, fitting_members, fi
 ghost use Rattle.typing_rules.specs.Targets.{readable_host};
 ghost use Rattle.typing_rules.specs.Targets.{representation_of, ordinal_of};
 
-use crate::typed::{Typed, TypedValue};
+use crate::{Typed, TypedValue};
 use place::Place;
-use typed_tree::fault::TypeFault;
-use typed_tree::site::SiteKind;
-use typed_tree::tree::{Direction, RangeTest, Readable, Representation, Scalar};
+use typed_tree::{Direction, RangeTest, Readable, Representation, Scalar, SiteKind, TypeFault};
 use types::{OrdinalRange, SetBase, TypeForm, TypeId, TypeKind, TypeTable};
 
 /// The kind of the site of a test, by what is tested.

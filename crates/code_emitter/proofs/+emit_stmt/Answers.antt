@@ -126,7 +126,7 @@ case::emit_case-returns-clause-emits t c =
     let end = place_of c.put.new.self in
     let places = λ (kept : IsKept c.emit_arms-inside.new.code). c.emit_arms-inside.ensures.outs kept
     ∙ ap (λ o. o ++ jumps_out scope head.constants.items arms (place_of c.emit_expr-index.new.code)) c.new-outs.ensures.items in
-    let set = c.set_each.ensures
+    let set = c.set_jumps.ensures
     ∙ ap (λ ps. with_each ps (instr.Jump c.place-target.result) last) c.as_slice.ensures.value
     ∙ ap (λ n. with_each outs (instr.Jump n) last) c.place-target.ensures.place in
     case_gets scope head arms outs c.emit_expr-index.ensures.emits c.emit_arms-inside.ensures.emits places c.put.ensures

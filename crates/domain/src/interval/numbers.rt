@@ -5,8 +5,7 @@ ghost use Rattle.std.specs.Ordering.{int_cmp};
 ghost use Rattle.domain.specs.Interval.{Interval as Range, HasMember, Includes};
 ghost use Rattle.domain.specs.Numbers.{hull, is_covered, IsFirstOther};
 
-use crate::Domain;
-use crate::interval::Interval;
+use crate::{Domain, Interval};
 
 impl Interval {
     /// The least range that has each of some numbers: the empty range where there are none.

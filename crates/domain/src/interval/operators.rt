@@ -5,8 +5,7 @@ ghost use Rattle.domain.specs.Order.{span};
 ghost use Rattle.domain.specs.Interval.{IsEnd, HasMember, held, nearest_end, extent, product, squared, magnitude, size};
 ghost use Rattle.domain.specs.Interval.{absolute, without_zero_end, at_least, at_most, quotient, remainder, is_true};
 
-use crate::Domain;
-use crate::interval::{Interval, LIMIT};
+use crate::{Domain, Interval, LIMIT};
 
 impl Interval {
     /// The products of a number of each range. An end beyond the greatest or the least is held there.

@@ -2,8 +2,7 @@ ghost use Rattle.std.specs.Prelude.{◌≡◌, not, ◌&&◌, ◌||◌, ℤ};
 ghost use Rattle.domain.specs.Interval.{HasMember, truth, is_true, always_true, never_true, truths, both, either};
 ghost use Rattle.domain.specs.Interval.{complement};
 
-use crate::Domain;
-use crate::interval::Interval;
+use crate::{Domain, Interval};
 
 impl Interval {
     /// What and gives for the truth values of a number of each range: 0 is false, any other number true

@@ -2,8 +2,8 @@ ghost use Rattle.std.specs.Prelude.{◌≡◌, ◌+◌, ◌<◌, ◌≤◌, IfOk
 ghost use Rattle.stack_machine.specs.Addresses as addresses;
 ghost use Rattle.stack_machine.specs.Frames as frames;
 
-use crate::stop::MachineFault;
-use crate::store::{Store, address_of, in_use};
+use crate::store::{address_of, in_use};
+use crate::{MachineFault, Store};
 
 impl Store {
     ghost use Rattle.stack_machine.specs.View.{Acts, view};

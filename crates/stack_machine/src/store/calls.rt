@@ -2,9 +2,8 @@ ghost use Rattle.std.specs.Prelude.{◌≡◌, ℕ, ◌+◌, ◌-◌, ◌^◌, �
 ghost use Rattle.std.specs.Prelude.{MatchResult, Some, Ok, Err};
 ghost use Rattle.stack_machine.specs.Calls as calls;
 
-use crate::cell::Cell;
-use crate::stop::MachineFault;
-use crate::store::{LINKS, Store, address_of};
+use crate::store::{LINKS, address_of};
+use crate::{Cell, MachineFault, Store};
 
 /// Where a return goes.
 #[derive(Clone, Copy)]

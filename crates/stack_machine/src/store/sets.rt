@@ -4,8 +4,7 @@ ghost use Rattle.stack_machine.specs.declared.cell.Cell.TheVariants.{Set};
 ghost use Rattle.stack_machine.specs.Frames.{popped, pushed};
 ghost use Rattle.stack_machine.specs.Sets as sets;
 
-use crate::stop::MachineFault;
-use crate::store::Store;
+use crate::{MachineFault, Store};
 use machine_arithmetic::arithmetic::truth;
 use members::sets::{Operator, Relation, has, is_within, of_one, of_range, range_fits};
 

@@ -11,16 +11,17 @@ loop-instr-init c = (ap length c.in_ok-places.ensures.items, λ place less. absu
 -- one place more
 pub loop-instr-preserved : goal.loop-instr-preserved
 loop-instr-preserved c =
-    let test = is_among c.args.open_sites.now in
+    let test = is_among c.args.sites.now in
     let code = c.args.code.now in
     let i = c.loop-instr.instr-index in
     let so_far = c.loop-instr.invariant in
     let next = c.in_ok-push.ensures.items in
+    let asked = ap (stays test) (sym c.instr-item.is) ∙ sym c.keep.ensures in
     let kept : c.if-keep.kept ≡ moved_place test code (i + 1) =
     elim c.if-keep.branch [
       | then-keep w ↦ w.kept-is ∙ ap (λ n. n + 1) so_far.2 ∙ sym
-          (count_by_more_yes (stays test) code i _ c.loop-instr-test.true (sym c.keep.ensures ∙ w.if-keep.true))
-      | else-keep w ↦ w.kept-is ∙ so_far.2 ∙ sym (count_by_more_no (stays test) code i _ c.loop-instr-test.true (sym c.keep.ensures ∙ w.if-keep.false))
+          (count_by_more_yes (stays test) code i _ c.loop-instr-test.true (asked ∙ w.if-keep.true))
+      | else-keep w ↦ w.kept-is ∙ so_far.2 ∙ sym (count_by_more_no (stays test) code i _ c.loop-instr-test.true (asked ∙ w.if-keep.false))
     ] in (
       one_longer c.loop-instr.places.items c.push.new.self.items c.loop-instr.kept i next so_far.0,
       one_place_more (moved_place test code) c.loop-instr.places.items c.push.new.self.items c.loop-instr.kept i next so_far.0 so_far.1 so_far.2,
@@ -30,7 +31,7 @@ loop-instr-preserved c =
 -- and that past the end
 pub returns : goal.returns
 returns c =
-    let to = moved_place (is_among c.args.open_sites.now) c.args.code.now in
+    let to = moved_place (is_among c.args.sites.now) c.args.code.now in
     let i = c.loop-instr.instr-index in
     let so_far = c.loop-instr.invariant in
     let next = c.in_ok-push-2.ensures.items in
@@ -44,5 +45,5 @@ returns c =
 -- the number of those that stay is within that of all
 pub overflow_add-kept : goal.overflow_add-kept
 overflow_add-kept c =
-    let few = moved_place-le (is_among c.args.open_sites.now) c.args.code.now c.loop-instr.instr-index in
+    let few = moved_place-le (is_among c.args.sites.now) c.args.code.now c.loop-instr.instr-index in
     omega (arith, few, c.loop-instr.invariant.2, c.loop-instr-test.true)

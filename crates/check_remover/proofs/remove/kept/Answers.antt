@@ -10,14 +10,16 @@ use Rattle.check_remover.proofs.remove.kept.Goals.{then-keep+in_ok-push, else-ke
 pub loop-instr-preserved : goal.loop-instr-preserved
 loop-instr-preserved c =
     let rest = c.loop-instr.rest.items in
+    let asked = ap (stays (is_among c.args.open_sites.now)) (sym c.instr-item.is) ∙ sym c.keep.ensures in
     elim c.if-keep.branch [
       | then-keep+in_ok-push w ↦
           kept_more _ _ c.args.code.now rest _ c.loop-instr.instr-index _ c.loop-instr-test.true c.loop-instr.invariant
-          (sym c.keep.ensures ∙ w.if-keep.true)
-          (ap (λ v. v.items) w.rest-is ∙ w.in_ok-push.ensures.items ∙ ap (λ i. rest ++ i ∷ []) w.with_moved_jump.ensures)
+          (asked ∙ w.if-keep.true)
+          (ap (λ v. v.items) w.rest-is ∙ w.in_ok-push.ensures.items
+          ∙ ap (λ i. rest ++ i ∷ []) (w.with_moved_jump.ensures ∙ ap (moved (new_place c.args.places.now)) c.instr-item.is))
       | else-keep w ↦
           left_out _ _ c.args.code.now rest _ c.loop-instr.instr-index _ c.loop-instr-test.true c.loop-instr.invariant
-          (sym c.keep.ensures ∙ w.if-keep.false) (ap (λ v. v.items) w.rest-is)
+          (asked ∙ w.if-keep.false) (ap (λ v. v.items) w.rest-is)
     ]
 
 pub loop-instr-init : goal.loop-instr-init

@@ -3,7 +3,7 @@ use Rattle.types.specs.declared.form.OrdinalRange.{OrdinalRange}
 use Rattle.checker_rows.specs.Leaves.{index_before}
 use Rattle.checker_state.specs.State.{Span, has_span, have_spans, wanted_of}
 use Rattle.checker_state.specs.View.{said_span}
-use Rattle.checker_known.specs.Known.{core, viewed}
+use Rattle.checker_known.specs.Knowledge.{core, viewed}
 use Rattle.checker_known.proofs.Within.{all-has}
 use Rattle.checker_calls.proofs.between.has_all.Goals as goal
 

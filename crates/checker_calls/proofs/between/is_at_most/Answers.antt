@@ -1,11 +1,11 @@
 use Rattle.std.proofs.Common.{◌∙◌, ap, ap₂}
 use Rattle.checker_state.specs.State.{le}
 use Rattle.checker_state.specs.View.{said_term}
-use Rattle.checker_known.specs.declared.known.Known.{Known}
-use Rattle.checker_known.specs.Known.{core, viewed}
+use Rattle.checker_known.specs.declared.knowledge.Knowledge.{Knowledge}
+use Rattle.checker_known.specs.Knowledge.{core, viewed}
 use Rattle.checker_calls.proofs.between.is_at_most.Goals as goal
 
 pub returns : goal.returns
 returns c =
-    c.le.ensures ∙ ap (λ (known : Known). le (viewed (core known)) (said_term c.of.result) (said_term c.of-2.result)) c.known.ensures
+    c.le.ensures ∙ ap (λ (known : Knowledge). le (viewed (core known)) (said_term c.of.result) (said_term c.of-2.result)) c.known.ensures
     ∙ ap₂ (le (viewed (core c.args.state.now.known))) c.of.ensures.is c.of-2.ensures.is

@@ -16,8 +16,8 @@ loop-constant-preserved c =
     let i = c.loop-constant.constant-index in
     let arm = capped (place_of c.args.code.now + 4 * length row + 1) in
     let next = drop_more row i (pos 0) c.loop-constant-test.true in
-    let held : c.load-value.result ≡ instr.Load 0 (held_offset scope 0) = c.load-value.ensures ∙ ap (instr.Load 0) c.held_offset.ensures in
+    let held : c.load.result ≡ instr.Load 0 (held_offset scope 0) = c.load.ensures ∙ ap (instr.Load 0) c.held_offset-value.ensures in
     let many : c.unwrap_or-constants.result ≡ capped (length row) = search rules in
-    let target : c.saturating_add.result ≡ arm = omega (arith, many) in
+    let target : c.saturating_add-target.result ≡ arm = omega (arith, many) in
     let piece : Gets c.loop-constant.code c.put_all.new.self (comparison scope arm (get_or row i (pos 0))) = gets_is c.put_all.ensures (search rules) in
     left_more (left_is c.loop-constant.invariant (ap (row_code scope arm) next)) piece

@@ -1,16 +1,12 @@
-use Rattle.std.proofs.Common.{◌∙◌, ap}
-use Rattle.std.proofs.lemmas.List.{take_all}
-use Rattle.code_generator.specs.Tables.{point_in_plain_numbers, point_table}
-use Rattle.code_scheme.proofs.Pieces.{map_one_more}
+use Rattle.std.proofs.Common.{rules}
+use Rattle.std.proofs.lemmas.Iterator.{items_from_collect, YieldsList-from_map, YieldsList-from_slice}
+use Rattle.std.proofs.lemmas.Iterator.Consumers.{YieldsList-at}
+use Rattle.code_generator.specs.Tables.{point_in_plain_numbers}
 use Rattle.code_generator.proofs.tables.points_of.Goals as goal
 
-pub loop-point-init : goal.loop-point-init
-loop-point-init c = c.in_ok-table.ensures.items
-
-pub loop-point-preserved : goal.loop-point-preserved
-loop-point-preserved c =
-    map_one_more point_in_plain_numbers c.args.points.now c.loop-point.point-index _ c.loop-point.table.items c.push.new.self.items c.plain_point.result
-    c.loop-point.invariant c.loop-point-test.true c.plain_point.ensures c.in_ok-push.ensures.items
-
+-- each point goes through the closure
 pub returns : goal.returns
-returns c = c.loop-point.invariant ∙ ap point_table (take_all c.loop-point.point-index c.args.points.now c.loop-point-test.false)
+returns c =
+    items_from_collect c.collect.result c.collect.ensures.ran
+    (YieldsList-from_map _ point_in_plain_numbers (YieldsList-at c.map-plain.ensures.source (YieldsList-from_slice c.args.points.now c.iter.ensures.rest))
+    c.map-plain.ensures.closure (λ x r q k. search rules))

@@ -2,7 +2,7 @@ use Rattle.std.proofs.Common.{◌++◌, ◌∷◌, [], ap, sym, ◌∙◌, subst
 use Rattle.std.specs.Prelude.{slice_set}
 use Rattle.typed_tree.specs.WellFormed.{is_parameter_kind}
 use Rattle.code_scheme.specs.Frames.{AreCounted}
-use Rattle.code_scheme.proofs.Frames.{counted_as, counted_more, with_more}
+use Rattle.code_scheme.proofs.Framed.{counted_as, counted_more, with_more}
 use Rattle.code_scheme.proofs.frame.count_in.Goals as goal
 
 pub returns : goal.returns

@@ -2,7 +2,7 @@ use Rattle.std.proofs.Common.{◌++◌, take, ap, sym, ◌∙◌, subst, append-
 use Rattle.std.proofs.lemmas.List.{drop_all, take_more}
 use Rattle.code_scheme.specs.Frames.{AreCounted}
 use Rattle.code_scheme.specs.Scopes.{homes_from}
-use Rattle.code_scheme.proofs.Frames.{one_home}
+use Rattle.code_scheme.proofs.Framed.{one_home}
 use Rattle.code_scheme.proofs.frame.homes.Goals as goal
 
 pub loop-variable-preserved : goal.loop-variable-preserved

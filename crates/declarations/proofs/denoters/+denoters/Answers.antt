@@ -7,7 +7,7 @@ use Rattle.types.specs.Forms.{field_form}
 use Rattle.typed_tree.specs.declared.fault.TypeFault.TheVariants.{Memory}
 use Rattle.typing.specs.Denoters.{arrays, denoted_type, index_type, index_types, named_fields}
 use Rattle.typing.specs.Names.{denoter_names}
-use Rattle.typing.specs.Outcomes.{Takes}
+use Rattle.typing.specs.Outcomes.{TypingTakes}
 use Rattle.typing.specs.Steps.{pass}
 use Rattle.typing.proofs.DenoterRows.{AreTypesFrom, AreGroupsFrom, types_next, group_stops, group_next, group_names_stop, groups_end}
 use Rattle.typing.proofs.DenoterRows.{indexes_stop, element_stops, array_goes_on, fields_stop, record_goes_on}
@@ -76,7 +76,7 @@ denoted_type-returns-in_ok-element-in-Array t c =
     let goes = array_goes_on c.args.denoter.now it.packed it.place it.indexes it.element it.is c.deref-in-Array.result.now
     c.deref-in-Array.ensures.value c.args.typer.now c.pass.new.self c.pass.ensures ids c.index_types.new.typer
     c.in_ok-indexes-in-Array.ensures c.deref-in-Array-2.result.now c.deref-in-Array-2.ensures id c.denoted_type.new.typer c.in_ok-element-in-Array.ensures in
-    subst (λ o. Takes o c.arrays.result c.arrays.new.self)
+    subst (λ o. TypingTakes o c.arrays.result c.arrays.new.self)
     (sym (goes ∙ ap (λ l. arrays it.packed it.place l id c.denoted_type.new.typer) (sym c.deref-in-Array-3.ensures.value))) c.arrays.ensures
 
 -- ---- its index types
@@ -147,7 +147,7 @@ denoted_type-returns-in_ok-fields-in-Record t c =
     let goes = record_goes_on c.args.denoter.now it.packed it.place it.rows it.denoters it.semicolon it.is c.deref-in-Record.result.now
     c.deref-in-Record.ensures.value c.deref-in-Record-2.result.now c.deref-in-Record-2.ensures.value c.args.typer.now c.pass-in-Record.new.self
     c.pass-in-Record.ensures (map field_form fields) c.grouped_fields.new.typer c.in_ok-fields-in-Record.ensures in
-    subst (λ o. Takes o c.add_type.result c.add_type.new.self) (sym goes) c.add_type.ensures.taken
+    subst (λ o. TypingTakes o c.add_type.result c.add_type.new.self) (sym goes) c.add_type.ensures.taken
 
 -- ---- its fields
 

@@ -1,7 +1,7 @@
 use Rattle.std.proofs.Common.{rules, ◌≡◌, ◌∙◌, [], Ok, ap, sym, subst, flat_map}
 use Rattle.typing.specs.Blocks.{heading_ends}
 use Rattle.typing.specs.Names.{formal_names}
-use Rattle.typing.specs.Outcomes.{IsFault, Takes}
+use Rattle.typing.specs.Outcomes.{IsFault, TypingTakes}
 use Rattle.typing.specs.Passing.{after}
 use Rattle.typing.specs.Steps.{open_block}
 use Rattle.declarations.specs.Parts.{texts}
@@ -55,5 +55,5 @@ returns c =
     let root = c.in_ok-root.root in
     let left = end_is_left c.args.number c.args.place c.args.groups.now c.args.types.now c.args.result_id c.args.typer.now c.begin_heading-cells.new.self
     c.begin_heading-cells.ensures.passed root c.result.new.self c.in_ok-root.ensures c.open_block.new.self opens roots last c.in_ok-roots.ensures in
-    subst (λ o. Takes o c.end_heading.result c.end_heading.new.self)
+    subst (λ o. TypingTakes o c.end_heading.result c.end_heading.new.self)
     (ap (λ n. heading_ends (record (last.enclosing) { cells = n }) roots root last) c.begin_heading-cells.ensures.cells ∙ sym left) c.end_heading.ensures

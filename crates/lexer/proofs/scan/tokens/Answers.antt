@@ -4,7 +4,7 @@ use Rattle.std.proofs.lemmas.List.{length-drop}
 use Rattle.lexer.specs.declared.token.Kind.{Kind}
 use Rattle.place.specs.Place.{start, place_after}
 use Rattle.lexer.specs.Piece.{offset_of}
-use Rattle.lexer.specs.Tokens.{Lexeme, Leaves, fault_of}
+use Rattle.lexer.specs.Tokens.{Lexeme, TokensLeave, fault_of}
 use Rattle.lexer.proofs.Order.{tokens_in_order}
 use Rattle.lexer.proofs.Cuts.{piece_cut, fault_within}
 use Rattle.lexer.proofs.Rows.{place_behind, kept_token, kept_separator, leaves_more, place_more, place_stops, one_list, one_fault, list_or_fault}
@@ -79,7 +79,7 @@ loop-rest-preserved c =
       search rules,
       search rules,
       pieces ++ found ∷ [],
-      subst (λ r. Leaves text (pieces ++ found ∷ []) r) (sym behind) (leaves_more text pieces rest found leaves (sym c.in-Ok.ensures)),
+      subst (λ r. TokensLeave text (pieces ++ found ∷ []) r) (sym behind) (leaves_more text pieces rest found leaves (sym c.in-Ok.ensures)),
       elim c.match-piece.branch [
         | in-Token+in_ok-push w ↦
             rw w.tokens-is (kept_token c.loop-rest.tokens.items w.push.new.self.items w.in-Token.kind _ text pieces rest found leaves c.loop-rest.invariant.4

@@ -1,5 +1,5 @@
 use Rattle.std.proofs.Common.{◌≡◌, map, pos, take}
-use Rattle.meaning.specs.declared.store.Value.TheVariants.{Number}
+use Rattle.meaning.specs.declared.value.Value.TheVariants.{Number}
 use Rattle.operations.proofs.rows.row_of.Given as goal
 
 abbrev pub invariant-loop-character : goal.invariant-loop-character

@@ -18,28 +18,29 @@ block-returns t c =
 
 -- ---- procedures and functions
 
-pub routines-loop-alloc-smaller : goal.routines-loop-alloc-smaller
-routines-loop-alloc-smaller t c =
-    items_fewer spec.begins_routine (spec.routine (block_below c.args.levels)) routine_outline c.loop-alloc.cursor.rest.now c.routine.result
-    c.routine.new.cursor c.loop-alloc.routines.items c.put.new.list.items c.routine.ensures (routine_takes_one c.args.levels) c.in_ok-put.ensures
+pub routines-loop-routines-smaller : goal.routines-loop-routines-smaller
+routines-loop-routines-smaller t c =
+    items_fewer spec.begins_routine (spec.routine (block_below c.args.levels)) routine_outline c.loop-routines.cursor.rest.now c.routine.result
+    c.routine.new.cursor c.loop-routines.routines.items c.put.new.list.items c.routine.ensures (routine_takes_one c.args.levels) c.in_ok-put.ensures
 
-pub routines-loop-alloc-preserved : goal.routines-loop-alloc-preserved
-routines-loop-alloc-preserved t c =
-    many_go spec.begins_routine (spec.routine (block_below c.args.levels)) routine_outline c.loop-alloc.cursor.rest.now c.routine.result
-    c.routine.new.cursor c.loop-alloc.routines.items c.put.new.list.items c.routine.ensures (routine_takes_one c.args.levels) c.loop-alloc.invariant
-    (sym c.begins_routine.ensures ∙ c.loop-alloc-test.true) c.in_ok-put.ensures
+pub routines-loop-routines-preserved : goal.routines-loop-routines-preserved
+routines-loop-routines-preserved t c =
+    many_go spec.begins_routine (spec.routine (block_below c.args.levels)) routine_outline c.loop-routines.cursor.rest.now c.routine.result
+    c.routine.new.cursor c.loop-routines.routines.items c.put.new.list.items c.routine.ensures (routine_takes_one c.args.levels) c.loop-routines.invariant
+    (sym c.begins_routine.ensures ∙ c.loop-routines-test.true) c.in_ok-put.ensures
 
 pub routines-returns-in_err-put : goal.routines-returns-in_err-put
 routines-returns-in_err-put t c =
     let why = c.in_err-put.field-0.0 in
     let left = c.routine.new.cursor in
     let stops : (¬ (why ≡ Memory the_refusal)) → spec.routines (block_below c.args.levels) c.args.cursor.now.rest.now ≡ Err (why, left.rest.now) =
-    many_stop spec.begins_routine (spec.routine (block_below c.args.levels)) routine_outline c.loop-alloc.cursor.rest.now c.routine.result left
-    c.loop-alloc.routines.items c.put.new.list.items c.routine.ensures c.loop-alloc.invariant (sym c.begins_routine.ensures ∙ c.loop-alloc-test.true) why
+    many_stop spec.begins_routine (spec.routine (block_below c.args.levels)) routine_outline c.loop-routines.cursor.rest.now c.routine.result left
+    c.loop-routines.routines.items c.put.new.list.items c.routine.ensures c.loop-routines.invariant (sym c.begins_routine.ensures ∙ c.loop-routines-test.true)
+    why
     c.in_err-put.ensures in
     search rules
 
 pub routines-returns : goal.routines-returns
 routines-returns t c =
-    many_end spec.begins_routine (spec.routine (block_below c.args.levels)) c.loop-alloc.cursor.rest.now c.loop-alloc.invariant
-    (sym c.begins_routine.ensures ∙ c.loop-alloc-test.false)
+    many_end spec.begins_routine (spec.routine (block_below c.args.levels)) c.loop-routines.cursor.rest.now c.loop-routines.invariant
+    (sym c.begins_routine.ensures ∙ c.loop-routines-test.false)

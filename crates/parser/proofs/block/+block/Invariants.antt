@@ -17,10 +17,10 @@ decreases-routine l = 4 * l.levels + 1
 abbrev pub decreases-body : goal.decreases-body
 decreases-body l = 4 * l.levels
 
-abbrev pub invariant-routines-loop-alloc : goal.invariant-routines-loop-alloc
-invariant-routines-loop-alloc l =
+abbrev pub invariant-routines-loop-routines : goal.invariant-routines-loop-routines
+invariant-routines-loop-routines l =
     Parts (spec.routines (block_below l.levels) l.fn.cursor.rest.now) (map routine_outline l.routines.items)
     (spec.routines (block_below l.levels) l.cursor.rest.now)
 
-abbrev pub decreases-routines-loop-alloc : goal.decreases-routines-loop-alloc
-decreases-routines-loop-alloc l = length l.cursor.rest.now
+abbrev pub decreases-routines-loop-routines : goal.decreases-routines-loop-routines
+decreases-routines-loop-routines l = length l.cursor.rest.now

@@ -38,29 +38,20 @@ decreases-repeat_turn l = 16 * l.left + 7
 abbrev pub decreases-for_turn : goal.decreases-for_turn
 decreases-for_turn l = 16 * l.left + 7
 
-abbrev pub decreases-for_turns : goal.decreases-for_turns
-decreases-for_turns l = 16 * l.left + 8
+abbrev pub decreases-turn : goal.decreases-turn
+decreases-turn l = 16 * l.left + 8
 
-abbrev pub decreases-while_loop : goal.decreases-while_loop
-decreases-while_loop l = 16 * l.left + 9
-
-abbrev pub decreases-repeat_loop : goal.decreases-repeat_loop
-decreases-repeat_loop l = 16 * l.left + 9
+abbrev pub decreases-turns : goal.decreases-turns
+decreases-turns l = 16 * l.left + 9
 
 abbrev pub decreases-for_loop : goal.decreases-for_loop
-decreases-for_loop l = 16 * l.left + 9
+decreases-for_loop l = 16 * l.left + 10
 
 abbrev pub decreases-case : goal.decreases-case
 decreases-case l = 16 * l.left + 9
 
-abbrev pub invariant-while_loop-loop : goal.invariant-while_loop-loop
-invariant-while_loop-loop l = l.left ≡ l.fn.left
-
-abbrev pub invariant-repeat_loop-loop : goal.invariant-repeat_loop-loop
-invariant-repeat_loop-loop l = l.left ≡ l.fn.left
-
-abbrev pub invariant-for_turns-loop : goal.invariant-for_turns-loop
-invariant-for_turns-loop l = l.left ≡ l.fn.left
+abbrev pub invariant-turns-loop : goal.invariant-turns-loop
+invariant-turns-loop l = l.left ≡ l.fn.left
 
 abbrev pub invariant-calls-loop-event : goal.invariant-calls-loop-event
 invariant-calls-loop-event l = l.left ≡ l.fn.left

@@ -2,7 +2,7 @@ use Rattle.std.proofs.Common.{◌∙◌, sym, subst, List}
 use Rattle.checker_expressions.specs.declared.noting.Noted.{Noted}
 use Rattle.checker_expressions.specs.Walk.{Valued, noting_walk}
 use Rattle.cert_checker.specs.Steps.{assigned_walk}
-use Rattle.cert_checker.specs.View.{Goes}
+use Rattle.cert_checker.specs.View.{WalkGoes}
 use Rattle.cert_checker.proofs.Assigned.{noting-goes, unnoted-goes}
 use Rattle.cert_checker.proofs.Steps.{lifted}
 use Rattle.cert_checker.proofs.walk.Walk.assigned_value.Goals as goal
@@ -13,7 +13,7 @@ returns-then-has-clause-goes g c =
     let value = c.args.value.now in
     let told : Valued = record { known = c.noting-known.result; noted = c.noting-known.new.noted.items } in
     noting-goes value told (sym c.has.ensures ∙ c.if-has.true)
-    (subst (λ (before : List Noted). Goes (noting_walk before value) old (record old { flow = c.noting-known.new.self }) told) c.new-notes.ensures.items
+    (subst (λ (before : List Noted). WalkGoes (noting_walk before value) old (record old { flow = c.noting-known.new.self }) told) c.new-notes.ensures.items
     (lifted c.noting-known.ensures.goes))
 
 pub returns-else-has-clause-goes : goal.returns-else-has-clause-goes
@@ -22,6 +22,6 @@ returns-else-has-clause-goes g c =
     let value = c.args.value.now in
     let known = c.expression-known.result in
     subst
-    (λ (notes : List Noted). Goes (assigned_walk value) old (record old { flow = c.expression-known.new.self }) (record { known = known; noted = notes }))
+    (λ (notes : List Noted). WalkGoes (assigned_walk value) old (record old { flow = c.expression-known.new.self }) (record { known = known; noted = notes }))
     (sym c.new-notes.ensures.items)
     (unnoted-goes value known (sym c.has.ensures ∙ c.if-has.false) (lifted c.expression-known.ensures.goes))

@@ -6,7 +6,7 @@ use Rattle.checker_expressions.specs.Visits.{all_counted}
 use Rattle.cert_checker.specs.StepsView.{said_valued}
 use Rattle.checker_expressions.specs.declared.noting.Noted.{Noted}
 use Rattle.cert_checker.specs.declared.walk.Walk.{Walk}
-use Rattle.cert_checker.specs.View.{Goes}
+use Rattle.cert_checker.specs.View.{WalkGoes}
 use Rattle.cert_checker.specs.Walk.{assign_value, reach_stored}
 use Rattle.cert_checker.proofs.Assigned.{assignment-goes, both-counted}
 use Rattle.cert_checker.proofs.Steps.{lifted}
@@ -24,7 +24,7 @@ returns-clause-goes g c =
     c.deref-2.ensures.value
     (c.reach_stored-reach.ensures ∙ ap (λ (hold : Bool). reach_stored c.deref-2.result.now hold reach) c.holds_call.ensures)
     (subst
-    (λ (notes : List Noted). Goes (assign_value assignment (said_reach c.reach_stored-reach.result) notes c.fitting-passed.result) tested new tt)
+    (λ (notes : List Noted). WalkGoes (assign_value assignment (said_reach c.reach_stored-reach.result) notes c.fitting-passed.result) tested new tt)
     c.deref-3.ensures.value c.assign_value.ensures)
 
 pub returns-clause-counts : goal.returns-clause-counts

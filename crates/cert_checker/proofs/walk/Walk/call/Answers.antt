@@ -3,7 +3,7 @@ use Rattle.typed_tree.specs.Entries.{call_entries, entries_of_passed}
 use Rattle.typed_tree.specs.declared.tree.Passed.{Passed}
 use Rattle.checker_expressions.specs.Visits.{all_counted}
 use Rattle.checker_expressions.specs.Walk.{call_walk, passed_piece_of}
-use Rattle.cert_checker.specs.View.{Goes}
+use Rattle.cert_checker.specs.View.{WalkGoes}
 use Rattle.cert_checker.proofs.Steps.{lifted}
 use Rattle.cert_checker.proofs.walk.Walk.call.Goals as goal
 
@@ -11,7 +11,7 @@ pub returns-clause-goes : goal.returns-clause-goes
 returns-clause-goes g c =
     let old = c.args.self.now in
     subst (λ (actuals : List Passed).
-    Goes (call_walk c.args.calling.now.call (map passed_piece_of actuals)) old (record old { flow = c.call.new.self }) tt) c.deref.ensures.value
+    WalkGoes (call_walk c.args.calling.now.call (map passed_piece_of actuals)) old (record old { flow = c.call.new.self }) tt) c.deref.ensures.value
     (lifted c.call.ensures.goes)
 
 pub returns-clause-counts : goal.returns-clause-counts

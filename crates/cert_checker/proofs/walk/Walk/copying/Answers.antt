@@ -5,7 +5,7 @@ use Rattle.typed_tree.specs.declared.tree.Expr.{Expr}
 use Rattle.typed_tree.specs.Calls.{whole_holds_call}
 use Rattle.domain.specs.Interval.{Interval}
 use Rattle.checker_state.specs.View.{said_reach}
-use Rattle.cert_checker.specs.View.{Goes}
+use Rattle.cert_checker.specs.View.{WalkGoes}
 use Rattle.cert_checker.specs.Walk.{copy_to}
 use Rattle.checker_expressions.specs.Visits.{all_counted}
 use Rattle.cert_checker.proofs.Assigned.{both-counted, copying-goes}
@@ -21,7 +21,7 @@ returns-clause-goes g c =
     c.deref-4.ensures.value
     (c.whole_holds_call-holds_call.ensures ∙ ap (λ (some : List Expr). whole_holds_call copying.value some) c.deref-3.ensures.value)
     c.reach_stored-reach.ensures
-    (subst (λ (ranges : List Interval). Goes (copy_to copying.becomes (origin_of target) target.selectors.items held ranges) c.whole_value-ranges.new.self
+    (subst (λ (ranges : List Interval). WalkGoes (copy_to copying.becomes (origin_of target) target.selectors.items held ranges) c.whole_value-ranges.new.self
     c.copy_to.new.self tt) c.deref-5.ensures.value c.copy_to.ensures)
 
 pub returns-clause-counts : goal.returns-clause-counts

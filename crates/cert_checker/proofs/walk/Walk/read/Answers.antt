@@ -3,7 +3,7 @@ use Rattle.std.specs.Prelude.{flat_map}
 use Rattle.typed_tree.specs.declared.tree.ReadVariable.{ReadVariable}
 use Rattle.typed_tree.specs.Entries.{entries_of_read}
 use Rattle.checker_expressions.specs.Visits.{all_counted}
-use Rattle.cert_checker.specs.View.{Goes}
+use Rattle.cert_checker.specs.View.{WalkGoes}
 use Rattle.cert_checker.specs.Walk.{all_of, from_entry, read_walk}
 use Rattle.cert_checker.proofs.Steps.{all-end, all-step, counted-end, counted-step, goes-from_entry}
 use Rattle.cert_checker.proofs.walk.Walk.read.Goals as goal
@@ -31,7 +31,7 @@ returns-clause-goes g c =
     let variables = c.deref-one-items.result.now in
     let number = c.args.reading.now.number in
     let walk = read_walk c.args.reading.now.name in
-    subst (λ (own : List ReadVariable). Goes (from_entry number (all_of (map walk own))) c.args.self.now here.self tt) c.deref-one-items.ensures.value
+    subst (λ (own : List ReadVariable). WalkGoes (from_entry number (all_of (map walk own))) c.args.self.now here.self tt) c.deref-one-items.ensures.value
     (goes-from_entry number (all_of (map walk variables))
     (here.invariant.0 here.self (all-end walk variables here.one-index here.self c.loop-one-test.false)))
 

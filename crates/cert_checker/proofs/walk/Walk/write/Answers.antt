@@ -4,7 +4,7 @@ use Rattle.typed_tree.specs.declared.tree.WriteParameter.{WriteParameter}
 use Rattle.typed_tree.specs.Entries.{entries_of_parameter}
 use Rattle.checker_expressions.specs.Visits.{all_counted}
 use Rattle.checker_expressions.specs.Walk.{parameter_walk}
-use Rattle.cert_checker.specs.View.{Goes}
+use Rattle.cert_checker.specs.View.{WalkGoes}
 use Rattle.cert_checker.specs.Walk.{all_of, from_entry}
 use Rattle.cert_checker.proofs.Steps.{all-end, all-step, counted-end, counted-step, goes-from_entry, lifted}
 use Rattle.cert_checker.proofs.walk.Walk.write.Goals as goal
@@ -32,7 +32,7 @@ returns-clause-goes g c =
     let here = c.loop-parameter in
     let parameters = c.deref-parameter-items.result.now in
     let number = c.args.writing.now.number in
-    subst (λ (own : List WriteParameter). Goes (from_entry number (all_of (map parameter_walk own))) c.args.self.now here.self tt)
+    subst (λ (own : List WriteParameter). WalkGoes (from_entry number (all_of (map parameter_walk own))) c.args.self.now here.self tt)
     c.deref-parameter-items.ensures.value
     (goes-from_entry number (all_of (map parameter_walk parameters))
     (here.invariant.0 here.self (all-end parameter_walk parameters here.parameter-index here.self c.loop-parameter-test.false)))

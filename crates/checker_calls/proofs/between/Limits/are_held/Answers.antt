@@ -1,7 +1,7 @@
 use Rattle.std.proofs.Common.{◌∙◌, sym}
 use Rattle.checker_calls.specs.View.{said_limits}
 use Rattle.checker_calls.proofs.HeldBetween.{dead-held, live-held}
-use Rattle.checker_known.specs.Known.{core, viewed}
+use Rattle.checker_known.specs.Knowledge.{core, viewed}
 use Rattle.checker_calls.proofs.between.Limits.are_held.Goals as goal
 
 pub returns-then-is_dead : goal.returns-then-is_dead

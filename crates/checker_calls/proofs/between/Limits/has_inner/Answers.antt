@@ -6,7 +6,7 @@ use Rattle.checker_rows.specs.Rows.{indexes_at, inner_at, rows_of}
 use Rattle.checker_state.specs.declared.held.Span.{Span as KeptSpan}
 use Rattle.checker_state.specs.State.{have_spans}
 use Rattle.checker_state.specs.View.{inner_spans, said_span}
-use Rattle.checker_known.specs.Known.{core, viewed}
+use Rattle.checker_known.specs.Knowledge.{core, viewed}
 use Rattle.checker_known.proofs.Within.{inner_has}
 use Rattle.checker_trail.specs.Trail.{seen}
 use Rattle.checker_calls.specs.declared.between.Between.{Between as KeptBetween}

@@ -3,7 +3,7 @@ use Rattle.std.specs.List.{list_any}
 use Rattle.checker_rows.specs.Rows.{indexes_at, rows_of}
 use Rattle.checker_state.specs.State.{covers}
 use Rattle.checker_state.specs.View.{said_held}
-use Rattle.checker_known.specs.Known.{core, viewed}
+use Rattle.checker_known.specs.Knowledge.{core, viewed}
 use Rattle.checker_trail.specs.Trail.{seen}
 use Rattle.checker_calls.specs.Entry.{wanted_between}
 use Rattle.checker_calls.specs.View.{said_limits}

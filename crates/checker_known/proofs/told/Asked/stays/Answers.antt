@@ -2,7 +2,7 @@ use Rattle.std.proofs.Common.{arith, ◌≡◌}
 use Rattle.std.specs.List.{Contains}
 use Rattle.std.proofs.lemmas.Bool.{OnTrue_at, OnTrue_from}
 use Rattle.checker_state.specs.View.{said_held}
-use Rattle.checker_known.specs.Known.{kept_by}
+use Rattle.checker_known.specs.Knowledge.{kept_by}
 use Rattle.checker_known.proofs.HeldLists.{said_all}
 use Rattle.checker_known.proofs.Kept.{stays-there}
 use Rattle.checker_known.proofs.told.Asked.stays.Goals as goal

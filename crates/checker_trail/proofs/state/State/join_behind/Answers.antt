@@ -1,4 +1,4 @@
-use Rattle.checker_known.specs.Known.{core}
+use Rattle.checker_known.specs.Knowledge.{core}
 use Rattle.checker_trail.proofs.Meeting.{joins-behind}
 use Rattle.checker_trail.proofs.state.State.join_behind.Goals as goal
 

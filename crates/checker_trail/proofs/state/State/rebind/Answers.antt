@@ -4,7 +4,7 @@ use Rattle.std.specs.Option.{IfSome}
 use Rattle.std.specs.List.{filter_map}
 use Rattle.checker_state.specs.State.{Held}
 use Rattle.checker_state.specs.View.{held_by}
-use Rattle.checker_known.specs.Known.{Core}
+use Rattle.checker_known.specs.Knowledge.{Core}
 use Rattle.checker_known.specs.Resting.{AreChanging}
 use Rattle.checker_known.proofs.HeldLists.{said_all}
 use Rattle.checker_trail.specs.Trail.{over_held}

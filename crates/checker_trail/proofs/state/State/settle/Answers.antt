@@ -4,7 +4,7 @@ use Rattle.checker_state.specs.declared.held.Held.{Held as KeptHeld}
 use Rattle.checker_known.specs.declared.told.Arrival.{Arrival}
 use Rattle.checker_known.specs.Told.{joined_at, said_at}
 use Rattle.checker_state.specs.State.{gives}
-use Rattle.checker_known.specs.Known.{core, viewed}
+use Rattle.checker_known.specs.Knowledge.{core, viewed}
 use Rattle.checker_state.specs.State.{table_of}
 use Rattle.checker_known.proofs.HeldLists.{said_all}
 use Rattle.checker_trail.proofs.state.State.settle.Goals as goal

@@ -5,7 +5,7 @@ use Rattle.meaning.specs.declared.outcome.Ending.TheVariants as ending
 use Rattle.meaning.specs.Meaning.{Argument}
 use Rattle.interpreter_state.specs.Views.{operand_seen}
 use Rattle.interpreter.specs.declared.interpreter.Run.{Run}
-use Rattle.interpreter.specs.Pending.{Does, beginning, left_below, operands_of, pending_of, taken_from}
+use Rattle.interpreter.specs.Pending.{RunDoes, beginning, left_below, operands_of, pending_of, taken_from}
 use Rattle.interpreter.proofs.Activating.{calls_block, calls_starved}
 use Rattle.interpreter.proofs.Resuming.{goes_on_below, stops_below}
 use Rattle.interpreter.proofs.interpreter.Run.activate.Goals as goal
@@ -25,7 +25,7 @@ returns-clause-does c = λ env outer s agrees.
     ap (λ (r : Run). slice_get r.tree.now.blocks.items number) (sym same) ∙ ap (λ (l : List Block). slice_get l number) (sym c.deref.ensures.value)
     ∙ slice_get_read c.deref.result.now _ number block refl (omega (arith, c.in-Some.ensures.lookup)) c.in-Some.ensures.lookup.1 in
     let operands = operands_of old in
-    let begins : List Argument → Run → Type 0 = λ arguments r. Does (beginning r.tree.now r.activation.depth number block arguments) taken
+    let begins : List Argument → Run → Type 0 = λ arguments r. RunDoes (beginning r.tree.now r.activation.depth number block arguments) taken
     c.begin.result new in
     let arguments = ap (map operand_seen) c.deref-2.ensures.value ∙ c.in_ok-arguments.ensures.taken in
     let does = subst (λ l. begins l old) arguments (subst (begins (map operand_seen c.deref-2.result.now)) same c.begin.ensures.does) in

@@ -1,6 +1,6 @@
 use Rattle.std.proofs.Common.{List, ℕ, ℤ, ◌∙◌, ap, subst}
 use Rattle.interpreter.specs.declared.interpreter.Run.{Run}
-use Rattle.meaning.specs.declared.store.Value.TheVariants.{Number}
+use Rattle.meaning.specs.declared.value.Value.TheVariants.{Number}
 use Rattle.meaning.specs.Effect.{members_of}
 use Rattle.meaning.specs.Meaning.{Argument, with_one}
 use Rattle.operations.specs.Answers.{Answers}

@@ -1,7 +1,7 @@
 use Rattle.std.proofs.Common.{◌≡◌, ◌∷◌, List, ℕ, ℤ, Bool, reverse, sym, ◌∙◌, ap}
 use Rattle.text_input.specs.Input.{Reading, Reads, is_at_end, read_eoln}
 use Rattle.typed_tree.specs.declared.tree.InputTest.{InputTest}
-use Rattle.meaning.specs.declared.store.Value.TheVariants.{Number}
+use Rattle.meaning.specs.declared.value.Value.TheVariants.{Number}
 use Rattle.meaning.specs.Effect.{State, Reply, Action, and_then, taken}
 use Rattle.meaning.specs.Integers.{truth}
 use Rattle.meaning.specs.Meaning.{OfValue}

@@ -6,7 +6,7 @@ use Rattle.interpreter.specs.declared.interpreter.Run.{Run}
 use Rattle.meaning.specs.Effect.{Reply, and_then, number_of}
 use Rattle.meaning.specs.Meaning.{Argument}
 use Rattle.operations.specs.Answers.{bounds_tested}
-use Rattle.interpreter.specs.Pending.{Does, counting_on, forgetting, pending_of, top_of, below_top, operands_of}
+use Rattle.interpreter.specs.Pending.{RunDoes, counting_on, forgetting, pending_of, top_of, below_top, operands_of}
 use Rattle.interpreter.specs.Size.{Adds}
 use Rattle.interpreter.proofs.Counts.{bounds-leave, looped-counting}
 use Rattle.interpreter.proofs.Resuming.{goes_on_below, passed, stops_below}
@@ -37,7 +37,7 @@ returns-in-Ok-Some-clause-does c = λ env outer s agrees.
     let final = c.in-Ok-Some.last in
     let value_fits : SFits w32 value = search rules in
     let final_fits : SFits w32 final = search rules in
-    let does : ℤ → ℤ → Type 0 = λ n m. Does (λ env. counting_on env head n n m body) taken c.for_round.result c.for_round.new.self in
+    let does : ℤ → ℤ → Type 0 = λ n m. RunDoes (λ env. counting_on env head n n m body) taken c.for_round.result c.for_round.new.self in
     let operands = operands_of old in
     let below = below_top (below_top operands) in
     let last = c.popped_number-last.ensures in

@@ -1,6 +1,6 @@
 use Rattle.std.proofs.Common.{◌∷◌, refl}
 use Rattle.interpreter_state.specs.declared.work.Work.TheVariants as work
-use Rattle.meaning.specs.declared.store.Value.TheVariants.{Members}
+use Rattle.meaning.specs.declared.value.Value.TheVariants.{Members}
 use Rattle.meaning.specs.Meaning.{OfValue}
 use Rattle.interpreter.specs.Pending.{operands_of, resumed}
 use Rattle.interpreter.proofs.Resuming.{goes_on_below}

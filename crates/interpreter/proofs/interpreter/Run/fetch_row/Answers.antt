@@ -2,7 +2,7 @@ use Rattle.std.proofs.Common.{◌≡◌, ◌∷◌, List, Option, Some, None, op
 use Rattle.types.specs.Forms.{Form}
 use Rattle.types.specs.Components.{components_of}
 use Rattle.interpreter.specs.declared.interpreter.Run.{Run}
-use Rattle.meaning.specs.declared.store.Value.{Value}
+use Rattle.meaning.specs.declared.value.Value.{Value}
 use Rattle.meaning.specs.Store.{Place}
 use Rattle.meaning.specs.Effect.{Reply, and_then}
 use Rattle.meaning.specs.Meaning.{OfRow}

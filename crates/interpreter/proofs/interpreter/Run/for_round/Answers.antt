@@ -1,14 +1,14 @@
 use Rattle.std.proofs.lemmas.Int.{ints}
 use Rattle.std.proofs.Common.{◌≡◌, ℤ, arith, option_map, reverse, sym, ◌∙◌, ap, subst}
 use Rattle.interpreter.specs.declared.interpreter.Run.{Run}
-use Rattle.meaning.specs.declared.store.Value.TheVariants.{Number}
+use Rattle.meaning.specs.declared.value.Value.TheVariants.{Number}
 use Rattle.interpreter_state.specs.declared.work.Rounds.TheVariants.{Behind}
 use Rattle.interpreter_state.specs.declared.work.Work.TheVariants as work
 use Rattle.meaning.specs.Counting.{values_before}
 use Rattle.meaning.specs.Store.{kept}
 use Rattle.meaning.specs.Effect.{State}
 use Rattle.interpreter_state.specs.Views.{place_seen}
-use Rattle.interpreter.specs.Pending.{Agrees, Does, StoreAgrees, pending_of, turning_inside, operands_of}
+use Rattle.interpreter.specs.Pending.{Agrees, RunDoes, StoreAgrees, pending_of, turning_inside, operands_of}
 use Rattle.interpreter.proofs.Resuming.{calls_extended, continues_as, passed_three}
 use Rattle.interpreter.proofs.Unrolling.{does-for-round}
 use Rattle.interpreter.proofs.interpreter.Run.for_round.Goals as goal
@@ -42,7 +42,7 @@ returns-clause-does c = λ env outer s agrees.
     let agreed : Agrees env outer new after = subst (λ (r : Run). Agrees env outer r after) (sym same) moved in
     let finished = values_before head.now.direction c.args.first c.args.value in
     let does : ℤ → ℤ → ℤ → Type 0 = λ first n m.
-    Does (λ env. turning_inside env finished body.now (work.For head (Behind first n m) body)) new c.for_turn.result c.for_turn.new.self in
+    RunDoes (λ env. turning_inside env finished body.now (work.For head (Behind first n m) body)) new c.for_turn.result c.for_turn.new.self in
     let later = work.For head (Behind c.args.first c.args.value c.args.last) body in
     continues_as env outer old c.for_turn.new.self _ _ c.for_turn.result
     (does-for-round env (calls_extended env outer old s agrees) head c.args.first c.args.value c.args.last body

@@ -4,7 +4,7 @@ use Rattle.std.proofs.lemmas.Int.{ints}
 use Rattle.std.proofs.Common.{◌≡◌, ℤ, rules, arith, Option, reverse, sym, ◌∙◌, ap}
 use Rattle.meaning.specs.Effect.{and_then, another, looped}
 use Rattle.operations.specs.Answers.{value_before}
-use Rattle.interpreter.specs.Pending.{Does, counting, counting_on, forgetting, pending_of, operands_of}
+use Rattle.interpreter.specs.Pending.{RunDoes, counting, counting_on, forgetting, pending_of, operands_of}
 use Rattle.interpreter.proofs.Resuming.{continues_as, passed_three}
 use Rattle.interpreter.proofs.interpreter.Run.next_round.Goals as goal
 
@@ -15,7 +15,7 @@ returns-in-Some-clause-does c = λ env outer s agrees.
     let each = counting env head c.args.first c.args.last c.args.body.now in
     let value_fits : SFits w32 c.in-Some.value = search rules in
     let does : ℤ → ℤ → ℤ → Type 0 = λ first n m.
-    Does (λ env. counting_on env head first n m c.args.body.now) old c.for_round.result c.for_round.new.self in
+    RunDoes (λ env. counting_on env head first n m c.args.body.now) old c.for_round.result c.for_round.new.self in
     let last : to_z w32 (of_z w32 c.args.last) ≡ c.args.last = omega (arith, ints, c.ranges.last) in
     let value : to_z w32 (of_z w32 c.args.value) ≡ c.args.value = omega (arith, ints, c.ranges.value) in
     let next = pending_of env outer (reverse old.pending.items) in

@@ -6,7 +6,7 @@ use Rattle.text_input.specs.declared.InputFault.TheVariants as fault
 use Rattle.text_input.specs.Input.{Reads}
 use Rattle.interpreter.specs.declared.interpreter.Run.{Run}
 use Rattle.meaning.specs.declared.outcome.Ending.TheVariants as ending
-use Rattle.meaning.specs.declared.store.Value.TheVariants.{Number}
+use Rattle.meaning.specs.declared.value.Value.TheVariants.{Number}
 use Rattle.meaning.specs.Effect.{State}
 use Rattle.meaning.specs.Store.{Place}
 use Rattle.interpreter_state.specs.Views.{failed, left_in, place_seen, read_by}

@@ -4,7 +4,7 @@ use mir.Val.{SFits}
 use Rattle.interpreter_state.specs.declared.work.Rounds.{Rounds}
 use Rattle.interpreter_state.specs.declared.work.Rounds.TheVariants.{Behind}
 use Rattle.interpreter_state.specs.declared.work.Work.TheVariants as work
-use Rattle.interpreter.specs.Pending.{Does, resumed}
+use Rattle.interpreter.specs.Pending.{RunDoes, resumed}
 use Rattle.interpreter.proofs.Resuming.{does_as, passed_three}
 use Rattle.interpreter.proofs.interpreter.Run.rounds.Goals as goal
 
@@ -22,6 +22,6 @@ returns-in-Behind-clause-does c =
     let fits : SFits w32 given.value = search rules in
     let last_fits : SFits w32 given.last = search rules in
     let does : ℤ → ℤ → ℤ → Type 0 = λ first value last.
-    Does (λ env. resumed env (work.For c.args.head (Behind first value last) c.args.body)) old c.next_round.result new in
+    RunDoes (λ env. resumed env (work.For c.args.head (Behind first value last) c.args.body)) old c.next_round.result new in
     does_as old new _ _ c.next_round.result (ap (λ (rounds : Rounds). work.For c.args.head rounds c.args.body) given.is)
     (passed_three does given.first given.value given.last first_fits fits last_fits c.next_round.ensures.does)

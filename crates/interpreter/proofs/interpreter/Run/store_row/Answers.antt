@@ -2,7 +2,7 @@ use Rattle.std.proofs.Common.{◌≡◌, List, Option, reverse, subst, sym, ap, 
 use Rattle.types.specs.Forms.{Form}
 use Rattle.types.specs.Components.{components_of}
 use Rattle.interpreter.specs.declared.interpreter.Run.{Run}
-use Rattle.meaning.specs.declared.store.Value.{Value}
+use Rattle.meaning.specs.declared.value.Value.{Value}
 use Rattle.meaning.specs.Store.{Place}
 use Rattle.meaning.specs.Effect.{State, Reply, and_then}
 use Rattle.interpreter.specs.Pending.{Agrees, StoreAgrees, below_top, kept_all, operands_of, pending_of, rest_of, top_place, top_row}

@@ -1,6 +1,6 @@
 use Rattle.std.proofs.Common.{◌∷◌, map, pos, reverse, ap, ◌∙◌}
 use Rattle.interpreter.specs.declared.interpreter.Run.{Run}
-use Rattle.meaning.specs.declared.store.Value.TheVariants.{Number}
+use Rattle.meaning.specs.declared.value.Value.TheVariants.{Number}
 use Rattle.meaning.specs.Meaning.{OfRow}
 use Rattle.interpreter.specs.Pending.{operands_of}
 use Rattle.interpreter.proofs.Resuming.{agreed_below, continues_as, goes_on_to}

@@ -1,7 +1,6 @@
 use Rattle.std.proofs.Common.{◌≡◌, ◌∙◌, ℕ, ◌+◌, ◌<◌, List, [], ◌∷◌, ◌++◌, ap, append_assoc, arith, drop, get_or, length, map, sym, take}
-use Rattle.std.specs.Prelude.{slice_set, pos}
+use Rattle.std.specs.Prelude.{slice_set}
 use Rattle.std.proofs.lemmas.List.{drop_more, get_or_at, length-map, length-take-le, map_more, set_at}
-use Rattle.pcode_assembler.specs.declared.instr.Instr.TheVariants.{LoadConstant}
 use Rattle.pcode_assembler.specs.Contents.{going_to, named}
 use Rattle.pcode_assembler.specs.Reading.{seen_by}
 use Rattle.pcode_assembler.proofs.labels.Labels.resolve_all.Goals as goal
@@ -22,5 +21,5 @@ written_next f xs ys i d y within so_far new =
 pub loop-instr-preserved : goal.loop-instr-preserved
 loop-instr-preserved c =
     let f = going_to (named (seen_by c.args.self.now)) in
-    written_next f c.args.instructions.now c.loop-instr.instructions c.loop-instr.instr-index (LoadConstant (pos 0)) c.resolve.result
+    written_next f c.args.instructions.now c.loop-instr.instructions c.loop-instr.instr-index c.instr-item.result c.resolve.new.instr
     (omega (arith, c.loop-instr-test.true)) c.loop-instr.invariant c.resolve.ensures

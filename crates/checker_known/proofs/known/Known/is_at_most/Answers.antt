@@ -1,7 +1,0 @@
-use Rattle.std.proofs.Common.{◌∙◌, ap₂}
-use Rattle.checker_state.specs.State.{le}
-use Rattle.checker_known.specs.Known.{core, viewed}
-use Rattle.checker_known.proofs.known.Known.is_at_most.Goals as goal
-
-pub returns : goal.returns
-returns c = c.le.ensures ∙ ap₂ (le (viewed (core c.args.self.now))) c.of.ensures.is c.of-2.ensures.is

@@ -1,5 +1,0 @@
-use Rattle.std.proofs.Common.{rules}
-use Rattle.meaning.proofs.store.Ordinal.modulus.Goals as goal
-
-pub returns : goal.returns
-returns c = search rules
