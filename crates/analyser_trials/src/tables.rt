@@ -151,6 +151,25 @@ fn ladders_of(alloc: Global, rows: usize, steps: &[i64]) -> Result<Ladders, Allo
 /// How many turns are finished at most.
 const MOST: i64 = 9;
 
+/// What facts move by.
+#[derive(Drop)]
+struct Basis<'a> {
+    rows: Rows<'a>,
+    ladders: Ladders,
+}
+
+impl<'a> Basis<'a> {
+    /// States move what they come to, and their moves count.
+    fn pace<'p>(&'p self) -> Pace<'p, 'a> {
+        Pace {
+            rows: &self.rows,
+            ladders: &self.ladders,
+            narrows: false,
+            counts: true,
+        }
+    }
+}
+
 /// The facts of a place, and what is known of them.
 #[derive(Drop)]
 struct Place {
@@ -260,20 +279,15 @@ fn row_told(alloc: Global, row: &Row) -> Result<String, AllocError> {
     let tree = tree(alloc)?;
     let rows = Rows::of(alloc, &tree)?;
     let ladders = ladders_of(alloc, rows.count(), steps)?;
+    let basis = Basis { rows, ladders };
     let mut place = Place {
         facts: facts_of(alloc, claims)?,
         table: Table::new(alloc, claims.len())?,
     };
-    let mut state = State::of_types(alloc, Version::Two, &rows);
+    let mut state = State::of_types(alloc, Version::Two, &basis.rows);
     let mut told = String::new(alloc);
-    let pace = Pace {
-        rows: &rows,
-        ladders: &ladders,
-        narrows: false,
-        counts: true,
-    };
     for event in events {
-        told.push_str(place.happen(*event, &mut state, pace))?;
+        told.push_str(place.happen(*event, &mut state, basis.pace()))?;
     }
     for fact in &place.facts {
         told.push_str(fact_told(alloc, fact)?.as_str())?;
