@@ -23,7 +23,7 @@ MODULES = (
     # Another check, later.
     ("Rattle-low-proofs.two.late.Lts", 1000),
 )
-INTERPRETER = ("operations", "interpreter_state", "interpreter")
+INTERPRETER = ("interpreter_state", "interpreter")
 LAYER = re.compile(r"^# ([A-Z][a-z ]+): |^(\w+):", re.M)
 TABLE = re.compile(r"^\| ([A-Za-z ]+) \| (\d+) \| ([\d,]+) \|[\d, ]*\| ([\d,]+) \| ([\d,]+) \|$", re.M)
 LIMITS = re.compile(r"limit is ([\d,]+) lines without the trials, or ([\d,]+) if .* and ([\d,]+) a crate")

@@ -1,14 +1,15 @@
 //! What the checker accepts of a certificate that was found.
 
 ghost use Rattle.std.specs.Prelude.{◌≡◌, IfOk, IfSome, true};
+ghost use Rattle.analyser.specs.Verdicts.{IsVerdict};
 ghost use Rattle.certificate.specs.Contents.{are_in_order, contents};
 ghost use Rattle.cert_checker.specs.Promise.{IsAccepted};
 ghost use Rattle.typed_tree.specs.WellFormed.{IsWellFormed};
 
 use crate::outcome::drop_vacant;
 use analyser_claims::{Event, events_of, number_of};
-use cert_checker::check;
 use cert_checker::laws::plain_is_accepted;
+use cert_checker::{Verdict, check};
 use certificate::{Certificate, Fact, ReadFault, read, write};
 use checker_expressions::CheckFault;
 use domain::Spans;
@@ -19,6 +20,14 @@ use typed_tree::Tree;
 
 // How often facts are let go, those of one kind at one place at a time.
 const TRIES: u32 = 32;
+
+/// A certificate that was found, and the checker's verdict by it.
+#[derive(Drop)]
+pub struct Found {
+    pub certificate: Certificate,
+    /// None of one that is accepted by a law, without a check.
+    pub verdict: Option<Verdict>,
+}
 
 // Where facts stand: at a loop, or where a block begins or ends.
 #[derive(Clone, Copy, PartialEq, Eq)]
@@ -38,9 +47,11 @@ pub fn accepted(
     tree: &Tree,
     certificate: Certificate,
     refusals: &mut u32,
-) -> Result<Certificate, AllocError>
-    ensures accepted { IsWellFormed tree.now → IfOk result (λ certificate. IsAccepted tree.now certificate) }
-    ensures in_order { IfOk result (λ certificate. are_in_order certificate.version (contents certificate) ≡ true) }
+) -> Result<Found, AllocError>
+    ensures accepted { IsWellFormed tree.now → IfOk result (λ found. IsAccepted tree.now found.certificate) }
+    ensures in_order { IfOk result (λ found.
+        are_in_order found.certificate.version (contents found.certificate) ≡ true) }
+    ensures verdict { IfOk result (λ found. IfSome found.verdict (IsVerdict tree.now found.certificate)) }
 {
     plain_is_accepted();
     let mut left = certificate;
@@ -52,7 +63,10 @@ pub fn accepted(
         }
         *refusals = refusals.saturating_add(1);
     }
-    widest(alloc, tree)
+    Ok(Found {
+        certificate: widest(alloc, tree)?,
+        verdict: None,
+    })
 }
 
 // A certificate as it is read from its spelling, if it can be and the checker accepts it; else where facts stand that
@@ -61,9 +75,10 @@ fn settled(
     alloc: Global,
     tree: &Tree,
     certificate: &Certificate,
-) -> Result<Result<Certificate, Option<Spot>>, AllocError>
-    ensures { IfOk result (λ settled. IfOk settled (λ certificate. IsAccepted tree.now certificate
-        × (are_in_order certificate.version (contents certificate) ≡ true))) }
+) -> Result<Result<Found, Option<Spot>>, AllocError>
+    ensures { IfOk result (λ settled. IfOk settled (λ found. IsAccepted tree.now found.certificate
+        × (are_in_order found.certificate.version (contents found.certificate) ≡ true)
+        × IfSome found.verdict (IsVerdict tree.now found.certificate))) }
 {
     let text = write(alloc, certificate)?;
     let certificate = match read(alloc, &text) {
@@ -72,7 +87,10 @@ fn settled(
         Err(_) => return Ok(Err(None)),
     };
     match check(alloc, tree, &certificate) {
-        Ok(_) => Ok(Ok(certificate)),
+        Ok(verdict) => Ok(Ok(Found {
+            certificate,
+            verdict: Some(verdict),
+        })),
         Err(CheckFault::Memory(refused)) => Err(refused.into()),
         Err(CheckFault::Broken { place, .. }) => Ok(Err(spot_at(alloc, tree, place)?)),
         Err(_) => Ok(Err(None)),

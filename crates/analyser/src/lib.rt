@@ -1,7 +1,8 @@
 //! The analyser: it finds a certificate of a program by walking over it until nothing new comes to where facts stand.
 #![tactic(auto)]
 
-ghost use Rattle.std.specs.Prelude.{◌≡◌, IfOk, true};
+ghost use Rattle.std.specs.Prelude.{◌≡◌, IfOk, IfSome, true};
+ghost use Rattle.analyser.specs.Verdicts.{IsVerdict};
 ghost use Rattle.certificate.specs.Contents.{are_in_order, contents};
 ghost use Rattle.cert_checker.specs.Promise.{IsAccepted};
 ghost use Rattle.typed_tree.specs.WellFormed.{IsWellFormed};
@@ -17,6 +18,7 @@ mod statements;
 mod tally;
 mod ways;
 
+pub use crate::accepting::Found;
 use crate::accepting::accepted;
 use crate::analysis::Analysis;
 use crate::outcome::filled;
@@ -32,10 +34,10 @@ use checker_trail::State;
 use std::alloc::{AllocError, Global};
 use typed_tree::Tree;
 
-/// A certificate that was found, and what that took.
+/// What a search for a certificate found, and what it took.
 #[derive(Drop)]
-pub struct Found {
-    pub certificate: Certificate,
+pub struct Search {
+    pub found: Found,
     /// How often a statement or an expression was entered on the way.
     pub visits: u64,
     /// How often the checker refused what was found, before more of it was let go.
@@ -43,26 +45,31 @@ pub struct Found {
 }
 
 /// Finds a certificate of a program that the checker accepts, and by which it closes as many sites as this can. It is
-/// in order, so what `certificate::write` writes of it is read again as the same.
+/// in order, so what `certificate::write` writes of it is read again as the same. A verdict that comes with it is the
+/// one that the checker makes by it.
 ///
 /// # Errors
 /// No memory.
-pub fn guess(alloc: Global, tree: &Tree) -> Result<Certificate, AllocError>
-    ensures accepted { IsWellFormed tree.now → IfOk result (λ certificate. IsAccepted tree.now certificate) }
-    ensures in_order { IfOk result (λ certificate. are_in_order certificate.version (contents certificate) ≡ true) }
+pub fn guess(alloc: Global, tree: &Tree) -> Result<Found, AllocError>
+    ensures accepted { IsWellFormed tree.now → IfOk result (λ found. IsAccepted tree.now found.certificate) }
+    ensures in_order { IfOk result (λ found.
+        are_in_order found.certificate.version (contents found.certificate) ≡ true) }
+    ensures verdict { IfOk result (λ found. IfSome found.verdict (IsVerdict tree.now found.certificate)) }
 {
-    let found = find(alloc, tree)?;
-    Ok(found.certificate)
+    let search = find(alloc, tree)?;
+    Ok(search.found)
 }
 
 /// The same, which tells what it took.
 ///
 /// # Errors
 /// No memory.
-pub fn find(alloc: Global, tree: &Tree) -> Result<Found, AllocError>
-    ensures accepted { IsWellFormed tree.now → IfOk result (λ found. IsAccepted tree.now found.certificate) }
-    ensures in_order { IfOk result (λ found.
-        are_in_order found.certificate.version (contents found.certificate) ≡ true) }
+pub fn find(alloc: Global, tree: &Tree) -> Result<Search, AllocError>
+    ensures accepted { IsWellFormed tree.now → IfOk result (λ search. IsAccepted tree.now search.found.certificate) }
+    ensures in_order { IfOk result (λ search.
+        are_in_order search.found.certificate.version (contents search.found.certificate) ≡ true) }
+    ensures verdict { IfOk result (λ search.
+        IfSome search.found.verdict (IsVerdict tree.now search.found.certificate)) }
 {
     let rows = Rows::of(alloc, tree)?;
     let Plan {
@@ -73,9 +80,9 @@ pub fn find(alloc: Global, tree: &Tree) -> Result<Found, AllocError>
     let mut visits = Tally { entries: 0 };
     let given = given_facts(alloc, &rows, &frame, &course, proposed, &mut visits);
     let mut refusals = 0;
-    let certificate = accepted(alloc, tree, filled(&rows, frame, given?), &mut refusals)?;
-    Ok(Found {
-        certificate,
+    let found = accepted(alloc, tree, filled(&rows, frame, given?), &mut refusals)?;
+    Ok(Search {
+        found,
         visits: visits.entries,
         refusals,
     })

@@ -35,7 +35,7 @@ use Rattle.checker_state.specs.Holds.{AreBounds, HasComponent, HasNumber, Holds,
 use Rattle.checker_state.specs.Holds.{moment, part_of, value_at}
 use Rattle.checker_state.specs.Knows.{IsOfForm, Knows, bound_rests}
 use Rattle.checker_state.specs.Loops.{is_among, with_claim}
-use Rattle.checker_state.specs.State.{Claim, Ordered, Span, State, Stretched}
+use Rattle.checker_state.specs.State.{Claim, Span, State, at_most_by, in_spans}
 use Rattle.checker_state.specs.State as state
 use Rattle.checker_state.specs.Changes.{both_there, span_between}
 use Rattle.checker_state.specs.Stores.{Reach, all_of_row, entire, is_entire}
@@ -431,7 +431,7 @@ module _ (tree : Tree) (pairs : List (ℕ × ℕ)) (number : ℕ) (block : Block
       by (Some []) is =
           let parts = span-and (exit_span tree bindings touches span) (exit_spans tree bindings touches spans) [] is in absurd (none-some_more parts.4)
       by (Some (one ∷ more)) is =
-          let claim : Claim = state.Holds (Stretched (record { row = own; spans = one ∷ more })) in
+          let claim : Claim = in_spans own (one ∷ more) in
           cond_both (is_variable_row tree own) known (with_claim claim known) KnowsHere (λ variable. knows)
           (λ other.
           let (numbers, bounds, each) = exit-here (fact.Defined path (span ∷ spans)) (defined_of tree (span ∷ spans) row) listed
@@ -546,7 +546,7 @@ module _ (tree : Tree) (pairs : List (ℕ × ℕ)) (number : ℕ) (block : Block
   exit-known (fact.Order root other k) listed may known knows =
       ⊎_elim (λ never. absurd never)
       (λ (lasts : IsLasting tree number claims.changes (fact.Order root other k)).
-      let (m, n, m_is, n_is, less) = exit-here (fact.Order root other k) (state.Holds (Ordered root other k)) listed (0, omega arith, refl) in
+      let (m, n, m_is, n_is, less) = exit-here (fact.Order root other k) (at_most_by root other k) listed (0, omega arith, refl) in
       bounds-known (exit_plus tree bindings touches root (pos 0)) (exit_plus tree bindings touches other k) (m +ℤ pos 0) (n +ℤ k)
       (λ b is. plus-here root (pos 0) m (m +ℤ pos 0) (fact.Order root other k) lasts (0, omega arith, refl) m_is refl b is)
       (λ b is. plus-here other k n (n +ℤ k) (fact.Order root other k) lasts (1, omega arith, refl) n_is refl b is)

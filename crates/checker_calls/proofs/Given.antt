@@ -59,15 +59,14 @@ use Rattle.checker_state.proofs.Bounds.{le-is, raised-is, told-of}
 use Rattle.checker_state.specs.Bounds.{Bound, constant, plus, raised_bound}
 use Rattle.checker_rows.specs.Rows.{all_parts, first_index, index_at, indexes_of, is_ordinal_variable, is_variable_row, rows_accessed, rows_of}
 use Rattle.checker_state.specs.Knows.{IsOfForm, Knows}
-use Rattle.checker_state.specs.State.{Claim, Dead, Live, Ordered, Range, State, at_most, has_value, is_below, is_dead, range_of}
+use Rattle.checker_state.specs.State.{Claim, Dead, Live, Range, State, at_most, at_most_by, has_value, is_below, is_dead, range_of}
 use Rattle.checker_calls.specs.Entry.{Between, Limit, are_borne_between, are_given, are_ordered, are_reached, between_and, both_limits, forms_at_most}
 use Rattle.checker_calls.specs.Entry.{have_values, holds_between, is_at_most, is_borne_between, is_defined_borne, is_empty_between, is_given, limit_moved}
 use Rattle.checker_calls.specs.Entry.{limit_of, limit_of_actual, limit_of_bound, limit_of_plus, limit_of_variable, limits_of, limits_of_span, range_borne}
 use Rattle.checker_calls.specs.Entry.{wanted_between}
-use Rattle.checker_state.specs.Holds.{AreBounds, AreDefined, HasComponent, HasNumber, HasValue, HeldHolds, HoldNumbers, Holds, IsBound, IsIn, LieBetween}
+use Rattle.checker_state.specs.Holds.{AreBounds, AreDefined, HasComponent, HasNumber, HasValue, HoldNumbers, Holds, IsBound, IsIn, LieBetween}
 use Rattle.checker_state.specs.Holds.{Moment, Numbers, StateHolds, moment, part_of, value_at}
 use Rattle.checker_calls.proofs.Parameters.{IsOuter, IsOutward, IsParameter, outward-cases, parameter-block}
-use Rattle.checker_state.specs.State.{Holds as Holding}
 
 -- ---- the variables that a fact names
 
@@ -512,7 +511,7 @@ module _ (tree : Tree) (pairs : List (ℕ × ℕ)) (number : ℕ) (block : Block
       (a, b, refl, refl, two.0, two.1, one.1)
 
   order-given : (root other : ℕ) (k : ℤ) → AreOutward tree number (fact.Order root other k) → is_given tree bindings state (fact.Order root other k) ≡ true
-      → HeldHolds (all_parts tree) (Ordered root other k) inner
+      → Holds (all_parts tree) (at_most_by root other k) inner
   order-given root other k outward is =
       let (a, b, a_is, b_is, a_has, b_has, below) = both-limits (λ a b. is_at_most state a b) (limit_of_plus tree state bindings root (pos 0))
       (limit_of_plus tree state bindings other k) (are_ordered state) (λ a b. refl) (λ b. refl) (λ a. refl) is in
@@ -614,7 +613,7 @@ module _ (tree : Tree) (pairs : List (ℕ × ℕ)) (number : ℕ) (block : Block
   claims-given (fact.Defined path (span ∷ spans)) outward is =
       each-row (rows_named tree path) (defined_of tree (span ∷ spans)) (spans-given path span spans outward is)
   claims-given (fact.Order root other k) outward is =
-      All-cons HoldsHere (Holding (Ordered root other k)) [] (order-given root other k outward is) (All-nil HoldsHere)
+      All-cons HoldsHere (at_most_by root other k) [] (order-given root other k outward is) (All-nil HoldsHere)
   claims-given (fact.Grows root growth) outward is = All-nil HoldsHere
 
   all-given : (facts : List Fact) → ((one : Fact) → Contains facts one → AreOutward tree number one) → list_all (is_given tree bindings state) facts ≡ true

@@ -5,46 +5,14 @@ use Rattle.std.specs.List.{cons_option, filter_map, list_any}
 use Rattle.std.proofs.lemmas.Bool.{cond_both}
 use Rattle.checker_state.specs.declared.held.Held.{Held as KeptHeld}
 use Rattle.checker_state.specs.Bounds.{Bound, is_variable}
-use Rattle.checker_state.specs.Changes.{all_changed, all_with_bounds, both_there, bound_rests_on, changed, changed_bound, rests_on, span_between}
-use Rattle.checker_state.specs.Changes.{span_rests_on, stretch_of}
+use Rattle.checker_state.specs.Changes.{all_changed, bound_rests_on, changed, rests_on, span_rests_on}
 use Rattle.checker_state.specs.Knows.{rests_on_any}
-use Rattle.checker_state.specs.State.{Dead, Facts, Held, Live, Ordered, RowState, Span, State, Stretched, no_row, with_growth}
+use Rattle.checker_state.specs.State.{Dead, Facts, Held, Live, RowState, Span, State, ends_of, no_row, with_growth}
 use Rattle.checker_state.specs.View.{said_held}
+use Rattle.checker_state.proofs.Settled.{one-kept, rests-by-ends}
 use Rattle.checker_trail.specs.declared.state.State.{State as Kept}
 use Rattle.checker_known.specs.Knowledge.{core, kept_by, viewed}
 use Rattle.checker_trail.specs.Trail.{all_ungrown, over_held, seen}
-
--- ---- one variable
-
-between-kept : (span : Span) (first last : Bool) → span_between (cond first None (Some span.first)) (cond last None (Some span.last))
-    ≡ cond (first || last) None (Some span)
-between-kept span true last = refl
-between-kept span false true = refl
-between-kept span false false = refl
-
-both-kept : (span : Span) (spans : List Span) (one rest : Bool) → both_there (cond one None (Some span)) (cond rest None (Some spans))
-    ≡ cond (one || rest) None (Some (span ∷ spans))
-both-kept span spans true rest = refl
-both-kept span spans false true = refl
-both-kept span spans false false = refl
-
-spans-kept : (root : ℕ) (spans : List Span) → all_with_bounds (changed_bound root None) spans
-    ≡ cond (list_any (span_rests_on root) spans) None (Some spans)
-spans-kept root [] = refl
-spans-kept root (span ∷ spans) =
-    ap₂ both_there (between-kept span (bound_rests_on root span.first) (bound_rests_on root span.last)) (spans-kept root spans)
-    ∙ both-kept span spans (span_rests_on root span) (list_any (span_rests_on root) spans)
-
-stretch-kept : (row : ℕ) (spans : List Span) (rests : Bool) → stretch_of row (cond rests None (Some spans))
-    ≡ cond rests None (Some (Stretched (record { row = row; spans = spans })))
-stretch-kept row spans true = refl
-stretch-kept row spans false = refl
-
--- what rests on a variable goes, and the rest stays as it is
-one-kept : (root : ℕ) (one : Held) → changed root None one ≡ cond (rests_on root one) None (Some one)
-one-kept root (Stretched stretch) =
-    ap (stretch_of stretch.row) (spans-kept root stretch.spans) ∙ stretch-kept stretch.row stretch.spans (list_any (span_rests_on root) stretch.spans)
-one-kept root (Ordered a b number) = refl
 
 -- ---- several
 
@@ -156,6 +124,15 @@ or-none false = refl
 pub any-alone : (p : ℕ → Bool) (roots : List ℕ) → list_any p roots ≡ list_any (λ root. p root || false) roots
 any-alone p [] = refl
 any-alone p (root ∷ roots) = ap₂ (λ one rest. one || rest) (or-none (p root)) (any-alone p roots)
+
+-- what is held rests on some, if its ends do
+pub ends-rest : (one : Held) (span : Span) (inner : List Span) (roots : List ℕ) (test : Bool) → span ∷ inner ≡ ends_of one
+    → test ≡ list_any (λ root. span_rests_on root span || list_any (span_rests_on root) inner) roots → test ≡ rests_on_any roots one
+ends-rest one span inner roots test ends is =
+    is ∙ ap (λ (rests : ℕ → Bool). list_any rests roots) (λ i root. same root i)
+  where
+    same : (root : ℕ) → (span_rests_on root span || list_any (span_rests_on root) inner) ≡ rests_on root one
+    same root = ap (list_any (span_rests_on root)) ends ∙ rests-by-ends root one
 
 -- a number rests on none
 pub none-rests : (bound : Bound) (roots : List ℕ) → bound.root ≡ None → false ≡ list_any (λ root. bound_rests_on root bound) roots

@@ -17,7 +17,7 @@ use Rattle.meaning.specs.Integers.{is_integer_number}
 use Rattle.meaning.specs.Store.{Environment, Store}
 use Rattle.checker_rows.specs.Rows.{Parts, first_index, indexes_of}
 use Rattle.checker_state.specs.Bounds.{Bound, constant}
-use Rattle.checker_state.specs.State.{Claim, Dead, Defined, Holds as Holding, Live, Span, State, Stretched, Table, is_dead, state_gives}
+use Rattle.checker_state.specs.State.{Claim, Dead, Defined, Live, Span, State, Table, in_spans, is_dead, state_gives}
 use Rattle.checker_state.specs.Changes.{span_between}
 use Rattle.checker_state.specs.Stores.{Index, Reach, form_span, gives_block, gives_both, gives_form, gives_index, gives_indexes, gives_inner}
 use Rattle.checker_state.specs.Stores.{gives_reached, gives_some, point, range_span}
@@ -77,7 +77,7 @@ abbrev span_of : Bound → Bound → Span
 span_of first last = record { first = first; last = last }
 
 abbrev between : ℕ → Bound → Bound → Claim
-between row first last = Holding (Stretched (record { row = row; spans = span_of first last ∷ [] }))
+between row first last = in_spans row (span_of first last ∷ [])
 
 module _ (rows : List Parts) (table : Table) (are : AreRows rows table) (env : Environment) (state : State) (store : Store)
     (ordinals : HoldNumbers table.ordinal (moment env store)) (known : Knows rows table.variables env state store) where
@@ -168,9 +168,9 @@ module _ (rows : List Parts) (table : Table) (are : AreRows rows table) (env : E
       (indexes_are : indexes_of steps ≡ number ∷ next ∷ rest) where
     -- between two spans
     spans-has : (span inner : Span) → Has span number → Has inner next
-        → state_gives table state (Holding (Stretched (record { row = row; spans = span ∷ inner ∷ [] }))) ≡ true → HasComponent rows m row steps
+        → state_gives table state (in_spans row (span ∷ inner ∷ [])) ≡ true → HasComponent rows m row steps
     spans-has span inner one two is =
-        let claim = Holding (Stretched (record { row = row; spans = span ∷ inner ∷ [] })) in
+        let claim = in_spans row (span ∷ inner ∷ []) in
         let holds = given-holds rows table are env state store claim ordinals known is in by holds.0 holds.1 holds.2
       where
         by : (numbers : List Numbers) → AreBounds m (span ∷ inner ∷ []) numbers → AreDefined rows row numbers m → HasComponent rows m row steps

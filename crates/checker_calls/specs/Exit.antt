@@ -14,7 +14,7 @@ use Rattle.domain.specs.Facts.{Path}
 use Rattle.checker_rows.specs.Limits.{row_limits}
 use Rattle.checker_rows.specs.Rows.{index_at, is_variable_row, rows_of, rows_touched, rows_under, type_at}
 use Rattle.checker_state.specs.Bounds.{Bound, constant, moved_bound, plus}
-use Rattle.checker_state.specs.State.{Holds, Span, State, Stretched, range_of, with_range}
+use Rattle.checker_state.specs.State.{Span, State, in_spans, range_of, with_range}
 use Rattle.checker_state.specs.Changes.{all_changed, both_there, bound_rests_on, ordered, span_between, with_some}
 use Rattle.checker_state.specs.Loops.{is_among, with_claim}
 use Rattle.checker_state.specs.Stores.{all_of_row, is_entire}
@@ -188,7 +188,7 @@ row_defined tree None row state = state
 row_defined tree (Some []) row state = with_claim (all_of_row (index_at (rows_of tree) row) row) state
 row_defined tree (Some (span ∷ spans)) row state =
     if is_variable_row tree row then state
-    else with_claim (Holds (Stretched (record { row = row; spans = span ∷ spans }))) state
+    else with_claim (in_spans row (span ∷ spans)) state
 
 -- so is what bears a leaf, where this is all of a row
 abbrev pub bearer_defined : Tree → Option (List Span) → Bearer → State → State

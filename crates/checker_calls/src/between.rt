@@ -224,14 +224,12 @@ impl Limits {
             (map (wanted_between state.now.table.now (seen state.now))
             (said_limits self.now)) (said_held held.now) }
     {
-        match held {
-            Held::Stretched(stretch) => {
-                row == stretch.row
-                    && self.span.is_within(state, stretch.span)
-                    && self.has_inner(state, row, stretch.inner)
-            }
-            Held::Ordered(_) => false,
-        }
+        let Some(stretch) = held.stretch() else {
+            return false;
+        };
+        row == stretch.row
+            && self.span.is_within(state, stretch.span)
+            && self.has_inner(state, row, stretch.inner)
     }
 
     fn begins(&self, state: &State, row: usize, held: &Held) -> bool
@@ -239,14 +237,12 @@ impl Limits {
             (map (wanted_between state.now.table.now (seen state.now))
             (said_limits self.now)) (said_held held.now) }
     {
-        match held {
-            Held::Stretched(stretch) => {
-                row == stretch.row
-                    && self.span.begins(state, stretch.span.first)
-                    && self.has_inner(state, row, stretch.inner)
-            }
-            Held::Ordered(_) => false,
-        }
+        let Some(stretch) = held.stretch() else {
+            return false;
+        };
+        row == stretch.row
+            && self.span.begins(state, stretch.span.first)
+            && self.has_inner(state, row, stretch.inner)
     }
 
     fn joins(&self, state: &State, row: usize, one: &Held, other: &Held) -> bool
@@ -254,15 +250,13 @@ impl Limits {
             (map (wanted_between state.now.table.now (seen state.now))
             (said_limits self.now)) (said_held one.now) (said_held other.now) }
     {
-        match (one, other) {
-            (Held::Stretched(one), Held::Stretched(other)) => {
-                row == other.row
-                    && is_beside(state, other.span.first, one.span.last)
-                    && self.span.ends(state, other.span.last)
-                    && self.has_inner(state, row, other.inner)
-            }
-            _ => false,
-        }
+        let (Some(one), Some(other)) = (one.stretch(), other.stretch()) else {
+            return false;
+        };
+        row == other.row
+            && is_beside(state, other.span.first, one.span.last)
+            && self.span.ends(state, other.span.last)
+            && self.has_inner(state, row, other.inner)
     }
 
     // Whether an inner span has all that is wanted of the inner index.

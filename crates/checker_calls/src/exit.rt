@@ -23,7 +23,7 @@ use crate::{ExitClaims, all_changes, is_whole, range_at_end, roots_changed};
 use certificate::Fact;
 use checker_loops::{BlockClaims, Pairs};
 use checker_rows::{Rows, Span};
-use checker_state::{Bound, Held, Order, Span as StateSpan, Stretch};
+use checker_state::{Bound, Claim, Held, Order, Span as StateSpan};
 use checker_trail::{State, all_of_row};
 use domain::Interval;
 use domain::facts::{self, Path, Spans};
@@ -292,7 +292,7 @@ fn define_stretch(
     ensures { Moves (row_defined rows.now (Some (said_span span ∷ inner_spans inner)) row) state.old state.new }
 {
     if !is_variable_row(rows, row) {
-        state.hold(Held::Stretched(Stretch { row, span, inner }));
+        state.claim(&Claim::in_spans(row, span, inner));
     }
 }
 

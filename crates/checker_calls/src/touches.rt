@@ -106,12 +106,8 @@ impl Touches {
     pub(crate) fn shifts_held(&self, held: &Held) -> bool
         ensures { result ≡ rests_on_any self.now.touched (said_held held.now) }
     {
-        match held {
-            Held::Stretched(stretch) => {
-                self.shifts_span(stretch.span) || self.shifts_inner(stretch.inner)
-            }
-            Held::Ordered(order) => self.has(order.root) || self.has(order.other),
-        }
+        let (span, inner) = held.ends();
+        self.shifts_span(span) || self.shifts_inner(inner)
     }
 
     fn shifts_span(&self, span: Span) -> bool

@@ -13,7 +13,8 @@ use Rattle.checker_state.specs.State.{Facts, Held, RowState, Table}
 use Rattle.checker_known.specs.Knowledge.{Core}
 use Rattle.checker_state.specs.View.{said_held}
 use Rattle.checker_known.specs.View.{said_row}
-use Rattle.checker_known.proofs.HeldLists.{no_held, said_all}
+use Rattle.checker_known.proofs.HeldLists.{said_all}
+use Rattle.checker_state.proofs.HeldOrders.{no_held}
 
 -- ---- tests of what is held
 

@@ -16,12 +16,13 @@ use Rattle.std.proofs.lemmas.Map.Keys.{IsStrictlyIncreasing-dedup, Less-from_sor
 use Rattle.checker_state.specs.declared.bound.Rebinding.{Rebinding}
 use Rattle.checker_state.specs.declared.held.Held.{Held as KeptHeld}
 use Rattle.checker_state.specs.State.{Held, held_order}
-use Rattle.checker_state.specs.View.{held_by, said_held}
+use Rattle.checker_state.specs.View.{held_by, root_of, said_held}
 use Rattle.checker_known.specs.Halves.{IsEdge}
 use Rattle.checker_known.specs.Order.{disorder_of}
-use Rattle.checker_known.specs.Resting.{AreChanging, AreFound, AreListed, AreRising, HasAllAt, HaveAll, IsAt, listed, root_of}
+use Rattle.checker_known.specs.Resting.{AreChanging, AreFound, AreListed, AreRising, HasAllAt, HaveAll, IsAt, listed}
 use Rattle.checker_known.proofs.HeldLists.{said-there, said_all}
-use Rattle.checker_known.proofs.InOrder.{held-turned, in-order}
+use Rattle.checker_known.proofs.InOrder.{in-order}
+use Rattle.checker_state.proofs.HeldOrders.{held-turned}
 use Rattle.checker_known.proofs.Listed.{first-or-rest, is-listed, listed-other, listed-set, same-order, settled}
 
 -- ---- where one is held

@@ -1,6 +1,6 @@
 -- Lists of what is held: which of them passes a test, where one comes among them, and what is left of them.
 use Rattle.std.proofs.Common.{arith, ◌≡◌, ◌∙◌, sym, ap, ap₂, refl, subst, ℕ, zero, suc, ◌+◌, ◌<◌, ◌≤◌, Bool, true, false, cond, ◌||◌, List, [], ◌∷◌, ◌++◌}
-use Rattle.std.proofs.Common.{append_assoc, append-nil, length, map, set, take, drop, drop-cons, get_or, Option, Some, None, filter, pos, ◌-◌}
+use Rattle.std.proofs.Common.{append_assoc, append-nil, length, map, set, take, drop, drop-cons, get_or, Option, Some, None, filter, ◌-◌}
 use Rattle.std.proofs.Common.{◌⊎◌, ⊎_elim, inl, inr}
 use Rattle.std.specs.List.{Contains, cons_option, filter_map, insert, list_any, remove}
 use Rattle.std.specs.declared.cmp.Ordering.{Ordering}
@@ -9,13 +9,12 @@ use Rattle.std.proofs.Math.ListN.{get_or-map}
 use Rattle.std.proofs.Math.Seq.{take-suc}
 use Rattle.std.proofs.lemmas.List.{set_split, take-append-drop, take-map, drop-map, drop_all, take_all, map-append, length-map}
 use Rattle.std.proofs.lemmas.List.Folds.{list_any_at}
-use Rattle.checker_state.specs.declared.bound.Bound.{Bound as KeptBound}
 use Rattle.checker_state.specs.declared.held.Held.{Held as KeptHeld}
-use Rattle.checker_state.specs.declared.held.Held.TheVariants as kept
 use Rattle.checker_state.specs.State.{Held, held_order, put, with_more, with_one}
 use Rattle.checker_known.specs.Knowledge.{changed_at, kept_by}
 use Rattle.checker_known.specs.Resting.{AreRising, IsAt}
 use Rattle.checker_state.specs.View.{said_held}
+use Rattle.checker_state.proofs.HeldOrders.{no_held}
 
 abbrev pub said_all : List KeptHeld → List Held
 said_all = map said_held
@@ -25,12 +24,6 @@ said_all = map said_held
 pub any-said : (test : Held → Bool) (held : List KeptHeld) → list_any (λ one. test (said_held one)) held ≡ list_any test (said_all held)
 any-said test [] = refl
 any-said test (one ∷ held) = ap (λ (rest : Bool). test (said_held one) || rest) (any-said test held)
-
--- what stands for what isn't held
-abbrev pub no_held : KeptHeld
-no_held =
-    let none : KeptBound = record { root = None; number = pos 0 } in
-    kept.Stretched (record { row = 0; span = record { first = none; last = none }; inner = None })
 
 -- one of some passes a test
 pub any-there : (test : Held → Bool) (held there : List KeptHeld) (i : ℕ) → there ≡ held → i < length there

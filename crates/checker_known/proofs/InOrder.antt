@@ -1,120 +1,30 @@
 -- What is held in its order: how much of it is out of that order, and where those stand that stand together.
-use Rattle.std.proofs.Common.{arith, ◌≡◌, Fits, w64, ⊎_elim, ◌∙◌, sym, ap, ap₂, refl, subst, ℕ, ℤ, zero, suc, ◌+◌, ◌<◌, ◌≤◌, ◌+ℤ◌}
-use Rattle.std.proofs.Common.{Bool, true, false, ◌&&◌, ◌||◌, eqb-true, int_le, nat_eq}
-use Rattle.std.proofs.Common.{List, [], ◌∷◌, ◌-◌, get_or, length, set, Option, None, Some}
+use Rattle.std.proofs.Common.{arith, ◌≡◌, Fits, w64, ⊎_elim, ◌∙◌, sym, ap, ap₂, refl, subst, ℕ, zero, suc, ◌+◌, ◌<◌, ◌≤◌}
+use Rattle.std.proofs.Common.{Bool, true, false, ◌||◌}
+use Rattle.std.proofs.Common.{List, [], ◌∷◌, ◌-◌, get_or, length, set}
 use Rattle.std.specs.List.{insert, list_any, remove}
 use Rattle.std.specs.List.Sorted.{IsStrictlySortedBy}
-use Rattle.std.specs.Ordering.{int_cmp, is_gt, nat_cmp, on, ordering_reverse, ordering_then, then_cmp}
-use Rattle.std.specs.Cmp.{IsTotalOrder, nat_cmp_is}
-use Rattle.std.specs.Cmp.Lexicographic.{options_total, slice_cmp}
+use Rattle.std.specs.Ordering.{is_gt, ordering_reverse, ordering_then}
+use Rattle.std.specs.Cmp.{IsTotalOrder}
 use Rattle.std.specs.declared.cmp.Ordering.{Ordering}
 use Rattle.std.specs.declared.cmp.Ordering.TheVariants.{Less, Equal, Greater}
-use Rattle.std.proofs.lemmas.Bool.{cases_Bool, cases_lt}
-use Rattle.std.proofs.lemmas.Cmp.{alike_right, int_cmp_total, lists_total, nat_cmp_total, on_total, then_total}
+use Rattle.std.proofs.lemmas.Bool.{cases_lt}
+use Rattle.std.proofs.lemmas.Cmp.{alike_right}
 use Rattle.std.proofs.lemmas.List.Folds.{list_any_at}
 use Rattle.std.proofs.lemmas.Map.Keys.{Less-from_sorted, sorted_from_all_adjacent}
-use Rattle.std.specs.Option.{option_cmp}
 use Rattle.std.proofs.Math.ListN.{get_or-map}
 use Rattle.std.proofs.lemmas.List.{get_or_default, length-map, length-set, map-set}
 use Rattle.std.proofs.lemmas.List.Edits.{length-insert, length-remove}
+use Rattle.checker_state.specs.declared.held.Group.{Group}
 use Rattle.checker_state.specs.declared.held.Held.{Held as KeptHeld}
 use Rattle.checker_state.specs.View.{said_held}
-use Rattle.checker_known.specs.declared.order.Group.{Group}
-use Rattle.checker_known.specs.declared.order.Group.TheVariants as group
-use Rattle.checker_state.specs.Bounds.{Bound, bound_order, is_variable, variable_order}
-use Rattle.types.specs.declared.form.OrdinalRange.{OrdinalRange}
-use Rattle.checker_state.specs.State.{Facts, Held, Ordered, Span, Stretch, Stretched, Wanted, begin_in_time, begins, covers, go_on, have_spans}
-use Rattle.checker_state.specs.State.{held_order, joins, says_at_most, span_order}
+use Rattle.checker_state.specs.State.{Held, group_of, held_order}
+use Rattle.checker_state.proofs.HeldOrders.{by-group, groups-total, held-chain, held-total, held-turned}
 use Rattle.checker_known.specs.Halves.{Falls, IsEdge}
 use Rattle.checker_known.specs.Order.{AreBetween, AreOf, comes_before, disorder_of, out_of_order, stands, wrong, wrong_around, wrong_at}
 use Rattle.checker_known.proofs.Pairs.{around-within, at-few, at-within, none-first, told-few, told-insert, told-nothing, told-past, told-remove}
 use Rattle.checker_known.proofs.Pairs.{told-set, told-there}
 use Rattle.checker_known.proofs.HeldLists.{ComesBehind, any-said, comes-behind, insert-said, remove-said, said-inside, said-there, said_all}
-
--- ---- the order
-
-variables-are : (one other : Option ℕ) → option_cmp nat_cmp one other ≡ variable_order one other
-variables-are None None = refl
-variables-are None (Some other) = refl
-variables-are (Some root) None = refl
-variables-are (Some root) (Some other) = refl
-
-variables-total : IsTotalOrder variable_order
-variables-total = subst IsTotalOrder (λ i one other. variables-are one other i) (options_total nat_cmp_total)
-
-bounds-total : IsTotalOrder bound_order
-bounds-total = then_total (on_total (λ (b : Bound). b.root) variables-total) (on_total (λ (b : Bound). b.number) int_cmp_total)
-
-spans-total : IsTotalOrder span_order
-spans-total = then_total (on_total (λ (s : Span). s.first) bounds-total) (on_total (λ (s : Span). s.last) bounds-total)
-
-abbrev stretch_order : Stretch → Stretch → Ordering
-stretch_order = then_cmp (on (λ (s : Stretch). s.row) nat_cmp) (on (λ (s : Stretch). s.spans) (slice_cmp span_order))
-
-stretches-total : IsTotalOrder stretch_order
-stretches-total = then_total (on_total (λ (s : Stretch). s.row) nat_cmp_total) (on_total (λ (s : Stretch). s.spans) (lists_total spans-total))
-
--- two variables, and an order of them
-record Two : Type 0 where
-  root : ℕ
-  other : ℕ
-
-abbrev two_order : Two → Two → Ordering
-two_order = then_cmp (on (λ (t : Two). t.root) nat_cmp) (on (λ (t : Two). t.other) nat_cmp)
-
-two-total : IsTotalOrder two_order
-two-total = then_total (on_total (λ (t : Two). t.root) nat_cmp_total) (on_total (λ (t : Two). t.other) nat_cmp_total)
-
-record Order : Type 0 where
-  two : Two
-  number : ℤ
-
-abbrev order_order : Order → Order → Ordering
-order_order = then_cmp (on (λ (o : Order). o.two) two_order) (on (λ (o : Order). o.number) int_cmp)
-
-orders-total : IsTotalOrder order_order
-orders-total = then_total (on_total (λ (o : Order). o.two) two-total) (on_total (λ (o : Order). o.number) int_cmp_total)
-
-abbrev order_of : ℕ → ℕ → ℤ → Order
-order_of root other number = record { two = record { root = root; other = other }; number = number }
-
-then-then : (one two three : Ordering) → ordering_then (ordering_then one two) three ≡ ordering_then one (ordering_then two three)
-then-then Less two three = refl
-then-then Equal two three = refl
-then-then Greater two three = refl
-
-orders-are : (a b c d : ℕ) (m n : ℤ) → order_order (order_of a b m) (order_of c d n) ≡ held_order (Ordered a b m) (Ordered c d n)
-orders-are a b c d m n = then-then (nat_cmp a c) (nat_cmp b d) (int_cmp m n)
-
-pub held-turned : (one other : Held) → held_order one other ≡ ordering_reverse (held_order other one)
-held-turned (Stretched a) (Stretched b) = stretches-total.antisymm a b
-held-turned (Stretched a) (Ordered c d n) = refl
-held-turned (Ordered a b m) (Stretched c) = refl
-held-turned (Ordered a b m) (Ordered c d n) =
-    sym (orders-are a b c d m n) ∙ orders-total.antisymm (order_of a b m) (order_of c d n) ∙ ap ordering_reverse (orders-are c d a b n m)
-
-held-chain : (x y z : Held) → held_order x y ≡ Less → held_order y z ≡ Less → held_order x z ≡ Less
-held-chain (Stretched a) (Stretched b) (Stretched c) first rest = stretches-total.trans a b c first rest
-held-chain (Stretched a) y (Ordered e f n) first rest = refl
-held-chain (Stretched a) (Ordered c d m) (Stretched b) first rest = absurd (cc)
-held-chain (Ordered a b m) (Stretched c) z first rest = absurd (cc)
-held-chain (Ordered a b m) (Ordered c d n) (Stretched e) first rest = absurd (cc)
-held-chain (Ordered a b l) (Ordered c d m) (Ordered e f n) first rest =
-    sym (orders-are a b e f l n)
-    ∙ orders-total.trans (order_of a b l) (order_of c d m) (order_of e f n) (orders-are a b c d l m ∙ first) (orders-are c d e f m n ∙ rest)
-
-held-alike : (x y z : Held) → held_order x y ≡ Equal → held_order x z ≡ held_order y z
-held-alike (Stretched a) (Stretched b) (Stretched c) same = stretches-total.congr a b c same
-held-alike (Stretched a) (Stretched b) (Ordered e f n) same = refl
-held-alike (Stretched a) (Ordered c d m) z same = absurd (cc)
-held-alike (Ordered a b m) (Stretched c) z same = absurd (cc)
-held-alike (Ordered a b m) (Ordered c d n) (Stretched e) same = refl
-held-alike (Ordered a b l) (Ordered c d m) (Ordered e f n) same =
-    sym (orders-are a b e f l n)
-    ∙ orders-total.congr (order_of a b l) (order_of c d m) (order_of e f n) (orders-are a b c d l m ∙ same) ∙ orders-are c d e f m n
-
-pub held-total : IsTotalOrder held_order
-held-total = record { antisymm = held-turned; trans = held-chain; congr = held-alike }
 
 -- ---- disorder
 
@@ -277,21 +187,11 @@ module _ {K : Type 0} {R : K → K → Ordering} (o : IsTotalOrder R) (with_them
   before-too : ordering_then (R x y) rest ≡ Less → comes_before with_them (R y key) ≡ true → comes_before with_them (R x key) ≡ true
   before-too is before = by-order (R x y) refl is (R y key) refl before
 
-abbrev two_of : ℕ → ℕ → Two
-two_of root other = record { root = root; other = other }
-
 -- what comes before something that comes before a group does so too
 falls : (place : Group) (with_them : Bool) (x y : Held) → held_order x y ≡ Less → comes_before with_them (stands place y) ≡ true
     → comes_before with_them (stands place x) ≡ true
-falls (group.Row row) with_them (Stretched a) (Stretched b) is before =
-    before-too nat_cmp_total with_them a.row b.row row (slice_cmp span_order a.spans b.spans) is before
-falls (group.Row row) with_them x (Ordered c d n) is before = absurd (cc)
-falls (group.Row row) with_them (Ordered a b m) (Stretched c) is before = absurd (cc)
-falls (group.Pair root other) with_them (Stretched a) y is before = refl
-falls (group.Pair root other) with_them (Ordered a b m) (Stretched c) is before = absurd (cc)
-falls (group.Pair root other) with_them (Ordered a b m) (Ordered c d n) is before =
-    before-too two-total with_them (two_of a b) (two_of c d) (two_of root other) (int_cmp m n)
-    (then-then (nat_cmp a c) (nat_cmp b d) (int_cmp m n) ∙ is) before
+falls place with_them x y is before =
+    let (rest, order_is) = by-group x y in before-too groups-total with_them (group_of x) (group_of y) place rest (sym order_is ∙ is) before
 
 -- those before a group, or up to it, stand first
 pub group-falls : (place : Group) (with_them : Bool) (held : List Held) (count : ℕ) → disorder_of held ≡ 0 → count ≤ length held
@@ -390,69 +290,6 @@ none-more test held place next so_far inside is fails = record {
       ∙ there test held place next one inside is ∙ fails)
       (cases_lt i place);
 }
-
--- what an order of other variables doesn't say, and what a stretch of another row doesn't cover
-abbrev Outside : Group → Held → Type 0
-Outside place one = stands place one ≡ Equal → ⊥
-
-level : (x y : ℕ) → nat_eq x y ≡ true → nat_cmp x y ≡ Equal
-level x y is = sym (nat_cmp_is x y Equal (eqb-true x y is))
-
-pub says-outside : (a b : Bound) (root other : ℕ) → a.root ≡ Some root → b.root ≡ Some other → (one : Held) → Outside (group.Pair root other) one
-    → says_at_most a b one ≡ false
-says-outside a b root other first second (Stretched stretch) outside = refl
-says-outside a b root other first second (Ordered x y number) outside =
-    ap₂ (λ (p q : Option ℕ). is_variable x p && (is_variable y q && int_le (number +ℤ a.number) b.number)) first second
-    ∙ ⊎_elim
-    (λ (left : nat_eq x root ≡ true).
-    ⊎_elim (λ (right : nat_eq y other ≡ true). absurd (outside (ap₂ ordering_then (level x root left) (level y other right))))
-    (λ (right : nat_eq y other ≡ false).
-    ap₂ (λ (p q : Bool). p && (q && int_le (number +ℤ a.number) b.number)) left right)
-    (cases_Bool (nat_eq y other)))
-    (λ (left : nat_eq x root ≡ false).
-    ap (λ (p : Bool). p && (nat_eq y other && int_le (number +ℤ a.number) b.number)) left)
-    (cases_Bool (nat_eq x root))
-
-pub says-no-first : (a b : Bound) → a.root ≡ None → (one : Held) → says_at_most a b one ≡ false
-says-no-first a b none (Stretched stretch) = refl
-says-no-first a b none (Ordered x y number) =
-    ap (λ (p : Option ℕ). is_variable x p && (is_variable y b.root && int_le (number +ℤ a.number) b.number)) none
-
-and-false : (b : Bool) → (b && false) ≡ false
-and-false true = refl
-and-false false = refl
-
-pub says-no-second : (a b : Bound) → b.root ≡ None → (one : Held) → says_at_most a b one ≡ false
-says-no-second a b none (Stretched stretch) = refl
-says-no-second a b none (Ordered x y number) =
-    ap (λ (q : Option ℕ). is_variable x a.root && (is_variable y q && int_le (number +ℤ a.number) b.number)) none ∙ and-false (is_variable x a.root)
-
--- what is of another row is none that is wanted of a row
-row-outside : (row other : ℕ) (rest : Bool) → (nat_cmp other row ≡ Equal → ⊥) → (nat_eq row other && rest) ≡ false
-row-outside row other rest outside =
-    ⊎_elim
-    (λ (same : nat_eq row other ≡ true). absurd (outside (sym (nat_cmp_is other row Equal (sym (eqb-true row other same))))))
-    (λ (differ : nat_eq row other ≡ false). ap (λ (b : Bool). b && rest) differ) (cases_Bool (nat_eq row other))
-
-module _ (known : Facts) (indexes : List OrdinalRange) (row : ℕ) (wanted : List Wanted) where
-  pub covers-outside : (one : Held) → Outside (group.Row row) one → covers known indexes row wanted one ≡ false
-  covers-outside (Ordered x y number) outside = refl
-  covers-outside (Stretched stretch) outside = row-outside row stretch.row (have_spans known indexes wanted stretch.spans) outside
-
-  begins-outside : (one : Held) → Outside (group.Row row) one → begins known indexes row wanted one ≡ false
-  begins-outside (Ordered x y number) outside = refl
-  begins-outside (Stretched stretch) outside = row-outside row stretch.row (begin_in_time known indexes wanted stretch.spans) outside
-
-  pub joined-outside : (one : Held) → Outside (group.Row row) one
-      → (begins known indexes row wanted one && list_any (joins known indexes row wanted one) known.held) ≡ false
-  joined-outside one outside =
-      ap (λ (b : Bool). b && list_any (joins known indexes row wanted one) known.held) (begins-outside one outside)
-
-  pub joins-outside : (one other : Held) → Outside (group.Row row) other → joins known indexes row wanted one other ≡ false
-  joins-outside (Ordered x y number) other outside = refl
-  joins-outside (Stretched one) (Ordered x y number) outside = refl
-  joins-outside (Stretched one) (Stretched other) outside =
-      row-outside row other.row (go_on known indexes wanted one.spans other.spans) outside
 
 pub none-at-all : (test : Held → Bool) (held : List Held) → ((one : Held) → test one ≡ false) → false ≡ list_any test held
 none-at-all test held fails = none-passes test held (λ i one inside. fails (get_or held i one))

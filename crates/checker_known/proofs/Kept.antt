@@ -16,8 +16,9 @@ use Rattle.checker_state.specs.View.{said_held}
 use Rattle.checker_known.specs.Told.{ToldLeaves}
 use Rattle.checker_known.specs.Order.{disorder_of}
 use Rattle.checker_known.specs.Knowledge.{kept_by}
-use Rattle.checker_known.proofs.HeldLists.{more-append, no_held, said_all}
-use Rattle.checker_known.proofs.InOrder.{held-total, in-order, there}
+use Rattle.checker_known.proofs.HeldLists.{more-append, said_all}
+use Rattle.checker_known.proofs.InOrder.{in-order, there}
+use Rattle.checker_state.proofs.HeldOrders.{held-total, no_held}
 
 -- ---- in order
 

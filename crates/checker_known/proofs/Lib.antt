@@ -12,5 +12,4 @@ pub mod Longer
 pub mod Types
 pub mod Growing
 pub mod Arrivals
-pub mod HeldGiven
 pub mod Within

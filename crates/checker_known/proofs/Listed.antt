@@ -1,5 +1,5 @@
 -- What is held in the lists of variables: what rests on none of them stays at a rebinding, and lists with more.
-use Rattle.std.proofs.Common.{arith, ◌≡◌, ◌≢◌, ◌⊎◌, inl, inr, ⊎_elim, ◌∙◌, sym, ap, ap₂, refl, subst, ℕ, zero, suc, ◌+◌, ◌<◌, ℤ}
+use Rattle.std.proofs.Common.{arith, ◌≡◌, ◌≢◌, ◌⊎◌, inl, inr, ⊎_elim, ◌∙◌, sym, ap, refl, subst, ℕ, zero, suc, ◌+◌, ◌<◌}
 use Rattle.std.proofs.Common.{Bool, true, false, cond, ◌||◌, nat_eq, List, [], ◌∷◌, ◌++◌, get_or, length, map, set, take, drop, Option, Some, None, true≢false}
 use Rattle.std.specs.List.{Contains, insert, list_any, remove}
 use Rattle.std.specs.Global.{Vec}
@@ -10,24 +10,22 @@ use Rattle.std.proofs.lemmas.List.Folds.{list_any_at}
 use Rattle.std.proofs.lemmas.Map.Views.{Contains-from_any}
 use Rattle.std.proofs.Math.Bool.{or-false}
 use Rattle.std.proofs.Math.ListN.{get_or-map}
-use Rattle.std.proofs.lemmas.Bool.{cases_Bool, eq-eqb, eqb-true, or_cases, or_parts}
+use Rattle.std.proofs.lemmas.Bool.{cases_Bool, eq-eqb, eqb-true, or_cases}
 use Rattle.std.proofs.lemmas.List.{get_or-drop, get_or-set_other, get_or-set_same, length-drop, length-map, map-append, map-set, set_split, take-append-drop}
 use Rattle.std.proofs.lemmas.List.Elements.{Contains-append_cases, Contains-append_left, Contains-append_right}
 use Rattle.checker_state.specs.declared.bound.Rebinding.{Rebinding}
-use Rattle.checker_state.specs.declared.bound.Rebinding.TheVariants as rebinding
 use Rattle.checker_state.specs.declared.held.Held.{Held as KeptHeld}
 use Rattle.checker_state.specs.declared.held.Span.{Span as KeptSpan}
-use Rattle.checker_state.specs.Bounds.{Bound, is_variable, moved_bound}
-use Rattle.checker_state.specs.Changes.{all_with_bounds, bound_rests_on, both_there, changed_bound_by, order_in_place, ordered, raised, raised_number}
-use Rattle.checker_state.specs.Changes.{rests_on, span_between, span_rests_on, stretch_of, unless_resting, with_bounds}
-use Rattle.checker_state.specs.State.{Held, Ordered, Span, Stretch, Stretched, held_order}
-use Rattle.checker_state.specs.View.{bound_by, held_by, inner_spans, said_bound, said_held, said_span}
+use Rattle.checker_state.specs.Bounds.{is_variable}
+use Rattle.checker_state.specs.Changes.{span_rests_on}
+use Rattle.checker_state.specs.State.{Held, Span, ends_of, held_order}
+use Rattle.checker_state.specs.View.{IsSettled, held_by, inner_spans, root_of, said_held, said_span}
 use Rattle.checker_known.specs.declared.resting.Resting.{Resting}
-use Rattle.checker_known.specs.Resting.{AreListed, IsListed, Lists, ListsMore, Puts, has, is_left, listed, root_of}
-use Rattle.checker_state.proofs.HeldOrders.{held-same}
+use Rattle.checker_known.specs.Resting.{AreListed, IsListed, Lists, ListsMore, Puts, has, is_left, listed}
+use Rattle.checker_state.proofs.HeldOrders.{held-same, held-turned}
+use Rattle.checker_state.proofs.Settled.{rests-by-ends}
 use Rattle.std.specs.Prelude.{Result, Ok, Err, OnOk, is_ok}
 use Rattle.checker_known.proofs.HeldLists.{said_all}
-use Rattle.checker_known.proofs.InOrder.{held-turned}
 
 -- ---- what is in a list with one more, one less, or another one
 
@@ -76,64 +74,6 @@ module _ {X : Type 0} where
   pub is-inserted : (xs : List X) (place : ℕ) (y : X) → Contains (insert xs place y) y
   is-inserted xs place y =
       Contains-append_right (take place xs) (y ∷ drop place xs) y (0, omega arith, refl)
-
--- ---- what stays
-
-stays-bound : (how : Rebinding) (bound : Bound) → bound_rests_on (root_of how) bound ≡ false → bound_by how bound ≡ Some bound
-stays-bound (rebinding.Changed root None) bound is = ap (λ (rests : Bool). cond rests None (Some bound)) is
-stays-bound (rebinding.Changed root (Some form)) bound is =
-    ap (λ (rests : Bool). cond rests (changed_bound_by root (said_bound form) bound) (Some bound)) is
-stays-bound (rebinding.InPlace root own) bound is =
-    ap (λ (rests : Bool). cond rests (moved_bound bound.number (said_bound own)) (Some bound)) is
-
-stays-span : (how : Rebinding) (span : Span) → span_rests_on (root_of how) span ≡ false → with_bounds (bound_by how) span ≡ Some span
-stays-span how span is =
-    let both = or_parts (bound_rests_on (root_of how) span.first) (bound_rests_on (root_of how) span.last) is in
-    ap₂ span_between (stays-bound how span.first both.0) (stays-bound how span.last both.1)
-
-stays-spans : (how : Rebinding) (spans : List Span) → list_any (span_rests_on (root_of how)) spans ≡ false
-    → all_with_bounds (bound_by how) spans ≡ Some spans
-stays-spans how [] is = refl
-stays-spans how (span ∷ spans) is =
-    let both = or_parts (span_rests_on (root_of how) span) (list_any (span_rests_on (root_of how)) spans) is in
-    ap₂ both_there (stays-span how span both.0) (stays-spans how spans both.1)
-
-stays-stretch : (how : Rebinding) (stretch : Stretch) → rests_on (root_of how) (Stretched stretch) ≡ false
-    → held_by how (Stretched stretch) ≡ Some (Stretched stretch)
-stays-stretch (rebinding.Changed root form) stretch is =
-    ap (stretch_of stretch.row) (stays-spans (rebinding.Changed root form) stretch.spans is)
-stays-stretch (rebinding.InPlace root own) stretch is =
-    ap (stretch_of stretch.row) (stays-spans (rebinding.InPlace root own) stretch.spans is)
-
-stays-raised : (root : ℕ) (k : ℤ) (a b : ℕ) (number : ℤ) → (nat_eq root a || nat_eq root b) ≡ false
-    → ordered a b number ≡ Some (Ordered a b number) → raised root k a b number ≡ Some (Ordered a b number)
-stays-raised root k a b number is proper =
-    let both = or_parts (nat_eq root a) (nat_eq root b) is in
-    ap₂ (λ (left right : Bool). ordered a b (raised_number left right k number)) both.0 both.1 ∙ proper
-
-stays-order : (how : Rebinding) (a b : ℕ) (number : ℤ) → (nat_eq (root_of how) a || nat_eq (root_of how) b) ≡ false
-    → ordered a b number ≡ Some (Ordered a b number) → held_by how (Ordered a b number) ≡ Some (Ordered a b number)
-stays-order (rebinding.Changed root None) a b number is proper = ap (λ (rests : Bool). cond rests None (Some (Ordered a b number))) is
-stays-order (rebinding.Changed root (Some form)) a b number is proper =
-    let alone : unless_resting root a b number ≡ Some (Ordered a b number) = ap (λ (rests : Bool). cond rests None (Some (Ordered a b number))) is in
-    ⊎_elim
-    (λ (own : is_variable root form.root ≡ true).
-    ap (λ (is_own : Bool). cond is_own (raised root form.number a b number) (unless_resting root a b number)) own
-    ∙ stays-raised root form.number a b number is proper)
-    (λ (other : is_variable root form.root ≡ false).
-    ap (λ (is_own : Bool). cond is_own (raised root form.number a b number) (unless_resting root a b number)) other ∙ alone)
-    (cases_Bool (is_variable root form.root))
-stays-order (rebinding.InPlace root own) a b number is proper =
-    let by = said_bound own in
-    ap (λ (rests : Bool). cond rests (order_in_place root by.root by.number a b number) (Some (Ordered a b number))) is
-
--- an order has a number that facts have, if it is one at all
-pub is-ordered : (a b : ℕ) (number : ℤ) (one : Held) → Some one ≡ ordered a b number → ordered a b number ≡ Some (Ordered a b number)
-is-ordered a b number one is = there _ (Ordered a b number) one is
-  where
-    there : (fits : Bool) (own other : Held) → Some other ≡ cond fits (Some own) None → cond fits (Some own) None ≡ Some own
-    there true own other is = refl
-    there false own other is = absurd (cc)
 
 -- ---- what is listed
 
@@ -214,18 +154,11 @@ module _ (one : Held) (a b : Resting) where
     keeps = lists.keeps;
   }
 
-pub listed-stretch : (stretch : Stretch) (one : Held) (a b : Resting) → one ≡ Stretched stretch
-    → (b.is_whole ≡ true → Lists (λ root. rests_on root (Stretched stretch)) one a b) → b.is_whole ≡ true → ListsMore one a b
-listed-stretch stretch one a b one_is lists whole =
-    listed-by one a b (λ root. rests_on root (Stretched stretch))
-    (λ how is. subst (λ (h : Held). held_by how h ≡ Some h) (sym one_is) (stays-stretch how stretch is)) (lists whole)
-
-pub listed-order : (root other : ℕ) (number : ℤ) (one : Held) (a b : Resting) → one ≡ Ordered root other number
-    → (b.is_whole ≡ true → Lists (λ of. nat_eq of root || nat_eq of other) one a b)
-    → (b.is_whole ≡ true → ordered root other number ≡ Some (Ordered root other number)) → b.is_whole ≡ true → ListsMore one a b
-listed-order root other number one a b one_is lists proper whole =
-    listed-by one a b (λ of. nat_eq of root || nat_eq of other)
-    (λ how is. subst (λ (h : Held). held_by how h ≡ Some h) (sym one_is) (stays-order how root other number is (proper whole))) (lists whole)
+pub listed-ends : (one : Held) (spans : List Span) (a b : Resting) → IsSettled one → spans ≡ ends_of one
+    → (b.is_whole ≡ true → Lists (λ root. list_any (span_rests_on root) spans) one a b) → b.is_whole ≡ true → ListsMore one a b
+listed-ends one spans a b settled ends lists whole =
+    listed-by one a b (λ root. list_any (span_rests_on root) spans)
+    (λ how is. settled how (sym (ap (list_any (span_rests_on (root_of how))) ends ∙ rests-by-ends (root_of how) one) ∙ is)) (lists whole)
 
 -- nothing is listed by no variable
 pub lists-none : (one : Held) (a : Resting) → a.is_whole ≡ true → Lists (λ root. false) one a a

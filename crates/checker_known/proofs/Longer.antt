@@ -13,7 +13,8 @@ use Rattle.checker_state.specs.State.{Facts, Held}
 use Rattle.checker_state.specs.Stores.{longer}
 use Rattle.checker_known.specs.Longer.{AreLonger, AreNear, place_if, places_from}
 use Rattle.checker_state.specs.View.{said_held}
-use Rattle.checker_known.proofs.HeldLists.{no_held, said_all}
+use Rattle.checker_known.proofs.HeldLists.{said_all}
+use Rattle.checker_state.proofs.HeldOrders.{no_held}
 
 if-append : (found : Option Held) (place : ℕ) (first rest : List ℕ) → place_if found place (first ++ rest) ≡ place_if found place first ++ rest
 if-append None place first rest = refl

@@ -3,22 +3,22 @@ use Rattle.std.proofs.Common.{arith, ◌≡◌, ◌∙◌, sym, ap, ap₂, refl,
 use Rattle.std.proofs.Common.{Bool, true, false, cond, ◌&&◌, ◌||◌, not, int_le, int_lt, nat_eq, List, [], ◌∷◌, get_or, length, Option, Some, None}
 use Rattle.std.specs.Cmp.{nat_cmp_is}
 use Rattle.std.specs.Cmp.Lexicographic.{slice_cmp}
-use Rattle.std.specs.FinMap.{nat_cmp-IsAntisymmetric}
 use Rattle.std.specs.List.{list_any}
 use Rattle.std.specs.Option.{is_none, is_some}
 use Rattle.std.specs.Ordering.{int_cmp, ordering_then}
 use Rattle.std.specs.declared.cmp.Ordering.{Ordering}
 use Rattle.std.specs.declared.cmp.Ordering.TheVariants.{Less, Equal, Greater}
-use Rattle.std.proofs.lemmas.Bool.{and_parts, cases_Bool, cases_eq, cases_lt, eq-eqb, eqb-true, false≢true, false_from_ne_true, or_cases}
+use Rattle.std.proofs.lemmas.Bool.{and_parts, cases_Bool, cases_eq, cases_lt, eq-eqb, false≢true, false_from_ne_true, or_cases}
 use Rattle.std.proofs.lemmas.Int.{ints}
 use Rattle.std.proofs.lemmas.Map.Keys.{Less-from_sorted}
 use Rattle.checker_state.specs.Bounds.{Bound, constant}
-use Rattle.checker_state.specs.State.{Facts, Held, Ordered, Span, Stretched, bound_range, held_order, is_below, is_next, le, lies_below, says_at_most}
-use Rattle.checker_state.specs.State.{Live, span_order}
-use Rattle.checker_state.specs.Stores.{is_at, longer, longer_by, longer_of, longer_span}
-use Rattle.checker_known.specs.declared.order.Group.TheVariants as group
+use Rattle.checker_state.specs.State.{Facts, Held, Span, Stretch, bound_range, held_order, is_below, is_next, le, lies_below, says_at_most}
+use Rattle.checker_state.specs.State.{Live, span_order, stretch_in, stretched}
+use Rattle.checker_state.specs.Stores.{is_at, longer, longer_by, longer_of, longer_span, longer_stretch}
+use Rattle.checker_state.proofs.HeldOrders.{longer-outside, of-row, says-no-first}
+use Rattle.checker_state.specs.declared.held.Group.TheVariants as group
 use Rattle.checker_known.specs.declared.halves.Test.TheVariants as test
-use Rattle.checker_known.specs.Halves.{Falls, IsEdge, first_of, last_of, passes, spans_of}
+use Rattle.checker_known.specs.Halves.{Falls, IsEdge, first_of, last_of, passes, spans_in, spans_of}
 use Rattle.checker_known.specs.Knots.{counts, goes_on, is_plain, knot, knots_of}
 use Rattle.checker_known.specs.Longer.{AreNear}
 use Rattle.checker_known.specs.Order.{AreBetween, AreOf, disorder_of, stands}
@@ -86,8 +86,7 @@ ends-later (span ∷ one) (next ∷ other) is =
 module _ (known : Facts) where
   no-order : (x y : ℤ) (held : List Held) → list_any (says_at_most (constant x) (constant y)) held ≡ false
   no-order x y [] = refl
-  no-order x y (Stretched stretch ∷ held) = no-order x y held
-  no-order x y (Ordered root other number ∷ held) = no-order x y held
+  no-order x y (one ∷ held) = ap₂ (λ (a b : Bool). a || b) (says-no-first (constant x) (constant y) refl one) (no-order x y held)
 
   le-numbers : (x y : ℤ) → le known (constant x) (constant y) ≡ true → int_le x y ≡ true
   le-numbers x y is =
@@ -140,11 +139,11 @@ module _ (known : Facts) where
   numbers-stay row c f l (two ∷ []) (span ∷ next ∷ rest) behind before at = refl
   numbers-stay row c f l (two ∷ third ∷ more) rest behind before at = refl
 
-  far-stays : (row : ℕ) (c : ℤ) (more : List Bound) (one : Held) → Numbers (spans_of one) → (c ≡ last_of (spans_of one) +ℤ pos 1 → ⊥)
-      → (first_of (spans_of one) ≡ c +ℤ pos 1 → ⊥) → (first_of (spans_of one) ≡ c → last_of (spans_of one) ≡ c → ⊥)
-      → longer known row (constant c ∷ more) one ≡ None
-  far-stays row c more (Ordered root other number) numbers behind before at = refl
-  far-stays row c more (Stretched s) numbers behind before at =
+  far-stretch : (row : ℕ) (c : ℤ) (more : List Bound) (one : Option Stretch) → Numbers (spans_in one) → (c ≡ last_of (spans_in one) +ℤ pos 1 → ⊥)
+      → (first_of (spans_in one) ≡ c +ℤ pos 1 → ⊥) → (first_of (spans_in one) ≡ c → last_of (spans_in one) ≡ c → ⊥)
+      → longer_stretch known row (constant c ∷ more) one ≡ None
+  far-stretch row c more None numbers behind before at = refl
+  far-stretch row c more (Some s) numbers behind before at =
       let n = numbers in
       let first : first_of s.spans ≡ n.first = ap first_of n.spans_are in
       let last : last_of s.spans ≡ n.last = ap last_of n.spans_are in
@@ -158,45 +157,46 @@ module _ (known : Facts) where
       both-none true nothing = refl
       both-none false nothing = refl
 
-  -- what isn't of a row stays too
-  outside-stays : (row : ℕ) (indexes : List Bound) (one : Held) → (stands (group.Row row) one ≡ Equal → ⊥) → longer known row indexes one ≡ None
-  outside-stays row indexes (Ordered root other number) outside = refl
-  outside-stays row indexes (Stretched s) outside =
-      ⊎_elim (λ (same : nat_eq s.row row ≡ true). absurd (outside (sym (nat_cmp_is s.row row Equal (eqb-true s.row row same)))))
-      (λ (differ : nat_eq s.row row ≡ false). ap (λ (b : Bool). cond b (longer_by known row indexes s.spans) None) differ)
-      (cases_Bool (nat_eq s.row row))
+  far-stays : (row : ℕ) (c : ℤ) (more : List Bound) (one : Held) → Numbers (spans_of one) → (c ≡ last_of (spans_of one) +ℤ pos 1 → ⊥)
+      → (first_of (spans_of one) ≡ c +ℤ pos 1 → ⊥) → (first_of (spans_of one) ≡ c → last_of (spans_of one) ≡ c → ⊥)
+      → longer known row (constant c ∷ more) one ≡ None
+  far-stays row c more one = far-stretch row c more (stretch_in one)
 
   -- ---- what stands in a row
 
   module _ (row : ℕ) (held : List Held) (first end : ℕ) (row_is : AreBetween (group.Row row) held first end) where
     before-row : (indexes : List Bound) (i : ℕ) (none : Held) → i < first → longer known row indexes (get_or held i none) ≡ None
     before-row indexes i none below =
-        outside-stays row indexes (get_or held i none) (λ same.
+        longer-outside known row indexes (get_or held i none) (λ same.
         let less = row_is.before i none below (omega (arith, below, row_is.begins)) in cc)
 
     behind-row : (indexes : List Bound) (i : ℕ) (none : Held) → end ≤ i → i < length held → longer known row indexes (get_or held i none) ≡ None
     behind-row indexes i none past within =
-        outside-stays row indexes (get_or held i none) (λ same.
+        longer-outside known row indexes (get_or held i none) (λ same.
         let more = row_is.behind i none past within in cc)
 
     pub near-row : (indexes : List Bound) → AreNear known row indexes held first end
     near-row indexes = record { begins = row_is.begins; ends = row_is.ends; before = before-row indexes; behind = behind-row indexes }
 
--- two of a row go on, if they are no knot of it
+-- two stretches of a row go on, if they are no knot of it
+loose-stretches : (row : ℕ) (one other : List Span) → counts row (knot (stretched row one) (stretched row other)) ≡ 0 → goes_on one other ≡ true
+loose-stretches row one other is =
+    ⊎_elim (λ (goes : goes_on one other ≡ true). goes)
+    (λ (not_so : goes_on one other ≡ false).
+    let found : knot (stretched row one) (stretched row other) ≡ Some row =
+    ap₂ (λ (x y : Bool). cond (x && not y) (Some row) None) (eq-eqb row row refl) not_so in
+    let counted : counts row (knot (stretched row one) (stretched row other)) ≡ 1 =
+    ap (counts row) found ∙ ap (λ (b : Bool). cond b 1 0) (eq-eqb row row refl) in
+    absurd (omega (arith, is, counted)))
+    (cases_Bool (goes_on one other))
+
 loose : (row : ℕ) (a b : Held) → stands (group.Row row) a ≡ Equal → stands (group.Row row) b ≡ Equal → counts row (knot a b) ≡ 0
     → goes_on (spans_of a) (spans_of b) ≡ true
-loose row (Ordered root other number) b first rest is = absurd (cc)
-loose row (Stretched s) (Ordered root other number) first rest is = absurd (cc)
-loose row (Stretched s) (Stretched t) first rest is =
-    let s_is : s.row ≡ row = nat_cmp-IsAntisymmetric s.row row first in
-    let t_is : t.row ≡ row = nat_cmp-IsAntisymmetric t.row row rest in
-    ⊎_elim (λ (goes : goes_on s.spans t.spans ≡ true). goes)
-    (λ (not_so : goes_on s.spans t.spans ≡ false).
-    let found : knot (Stretched s) (Stretched t) ≡ Some s.row =
-    ap₂ (λ (x y : Bool). cond (x && not y) (Some s.row) None) (eq-eqb s.row t.row (s_is ∙ sym t_is)) not_so in
-    let one : counts row (knot (Stretched s) (Stretched t)) ≡ 1 = ap (counts row) found ∙ ap (λ (b : Bool). cond b 1 0) (eq-eqb s.row row s_is) in
-    absurd (omega (arith, is, one)))
-    (cases_Bool (goes_on s.spans t.spans))
+loose row a b first rest is =
+    let (one, a_is) = of-row row a first in
+    let (other, b_is) = of-row row b rest in
+    ap₂ (λ (x y : Held). goes_on (spans_of x) (spans_of y)) a_is b_is
+    ∙ loose-stretches row one other (sym (ap₂ (λ (x y : Held). counts row (knot x y)) a_is b_is) ∙ is)
 
 numbers-more : (f g : ℤ) → int_lt g f ≡ true → int_cmp f g ≡ Greater
 numbers-more f g is =
@@ -209,18 +209,22 @@ greater-less is = cc
 -- the earlier of two of a row begins no later
 begins-sooner : (row : ℕ) (a b : Held) → stands (group.Row row) a ≡ Equal → stands (group.Row row) b ≡ Equal → Numbers (spans_of a)
     → Numbers (spans_of b) → held_order a b ≡ Less → int_le (first_of (spans_of a)) (first_of (spans_of b)) ≡ true
-begins-sooner row (Ordered root other number) b first rest x y is = absurd (cc)
-begins-sooner row (Stretched s) (Ordered root other number) first rest x y is = absurd (cc)
-begins-sooner row (Stretched s) (Stretched t) first rest x y is =
-    let same : s.row ≡ t.row = nat_cmp-IsAntisymmetric s.row row first ∙ sym (nat_cmp-IsAntisymmetric t.row row rest) in
-    let f : first_of s.spans ≡ x.first = ap first_of x.spans_are in
-    let g : first_of t.spans ≡ y.first = ap first_of y.spans_are in
+begins-sooner row a b first rest x y is =
+    let (one, a_is) = of-row row a first in
+    let (other, b_is) = of-row row b rest in
+    let spans_is : spans_of a ≡ one = ap spans_of a_is in
+    let others_is : spans_of b ≡ other = ap spans_of b_is in
+    let less : held_order (stretched row one) (stretched row other) ≡ Less = sym (ap₂ held_order a_is b_is) ∙ is in
+    let x_is = sym spans_is ∙ x.spans_are in
+    let y_is = sym others_is ∙ y.spans_are in
+    let f : first_of (spans_of a) ≡ x.first = ap first_of x.spans_are in
+    let g : first_of (spans_of b) ≡ y.first = ap first_of y.spans_are in
     let no : int_lt y.first x.first ≡ false =
     false_from_ne_true (int_lt y.first x.first) (λ more.
     greater-less
-    (sym (ap₂ (λ (o p : Ordering). ordering_then o p) (sym (nat_cmp_is s.row t.row Equal same)) (ap₂ (slice_cmp span_order) x.spans_are y.spans_are)
+    (sym (ap₂ (λ (o p : Ordering). ordering_then o p) (sym (nat_cmp_is row row Equal refl)) (ap₂ (slice_cmp span_order) x_is y_is)
     ∙ ap (λ (o : Ordering). ordering_then (ordering_then o (int_cmp x.last y.last)) (slice_cmp span_order x.rest y.rest)) (numbers-more x.first y.first more))
-    ∙ is)) in
+    ∙ less)) in
     let at_most : int_le x.first y.first ≡ true = grind (arith, ints) in
     ap₂ (λ (p q : ℤ). int_le p q) f g ∙ at_most
 

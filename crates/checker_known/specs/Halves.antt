@@ -1,7 +1,8 @@
 -- Tests of what is held that those pass who stand first, and where the others begin. It does not say why they stand so.
-use Rattle.std.specs.Prelude.{◌≡◌, ℕ, ◌<◌, ◌≤◌, ℤ, pos, int_lt, Bool, true, false, List, [], ◌∷◌, slice_index_or}
+use Rattle.std.specs.Prelude.{◌≡◌, ℕ, ◌<◌, ◌≤◌, ℤ, pos, int_lt, Bool, true, false, List, [], ◌∷◌, Option, Some}
+use Rattle.std.specs.Prelude.{None, slice_index_or}
 use Rattle.std.specs.Ordering.{is_gt}
-use Rattle.checker_state.specs.State.{Held, Ordered, Span, Stretched, held_order}
+use Rattle.checker_state.specs.State.{Held, Span, Stretch, held_order, stretch_in}
 use Rattle.checker_state.specs.View.{said_held}
 use Rattle.checker_known.specs.declared.halves.Test.{Test}
 use Rattle.checker_known.specs.declared.halves.Test.TheVariants as test
@@ -17,9 +18,12 @@ last_of [] = pos 0
 last_of (span ∷ spans) = span.last.number
 
 -- the spans of a stretch
+abbrev pub spans_in : Option Stretch → List Span
+spans_in None = []
+spans_in (Some stretch) = stretch.spans
+
 abbrev pub spans_of : Held → List Span
-spans_of (Stretched stretch) = stretch.spans
-spans_of (Ordered root other number) = []
+spans_of one = spans_in (stretch_in one)
 
 abbrev pub passes : Test → Held → Bool
 passes (test.Before group) one = comes_before false (stands group one)

@@ -3,7 +3,7 @@
 use Rattle.std.specs.Prelude.{◌≡◌, ℕ, ◌+◌, ◌<◌, ◌≤◌, zero, suc, ◌-◌, min, int_le, nat_eq, not, Bool, false, ◌&&◌}
 use Rattle.std.specs.Prelude.{List, [], ◌∷◌, Option, Some, None, if◌then◌else◌, length, slice_index_or, slice_set}
 use Rattle.std.specs.Option.{is_none}
-use Rattle.checker_state.specs.State.{Held, Ordered, Span, Stretched}
+use Rattle.checker_state.specs.State.{Held, Span, Stretch, stretch_in}
 use Rattle.checker_known.specs.Pairs.{told_of}
 
 -- both bounds are numbers, and the first is at most the last
@@ -18,11 +18,14 @@ goes_on (span ∷ one) [] = false
 goes_on (span ∷ one) (next ∷ other) = is_plain span && (is_plain next && int_le span.last.number next.last.number)
 
 -- the row of two stretches of which the other doesn't go on from the one
-abbrev pub knot : (one other : Held) → Option ℕ
-knot (Stretched one) (Stretched other) =
+abbrev pub knot_in : (one other : Option Stretch) → Option ℕ
+knot_in None next = None
+knot_in (Some one) None = None
+knot_in (Some one) (Some other) =
     if nat_eq one.row other.row && not (goes_on one.spans other.spans) then Some one.row else None
-knot (Stretched one) (Ordered root other number) = None
-knot (Ordered root other number) next = None
+
+abbrev pub knot : (one other : Held) → Option ℕ
+knot one other = knot_in (stretch_in one) (stretch_in other)
 
 -- the same of the one before a place and the one at it, if there are both
 abbrev pub knot_at : ℕ → List Held → Option ℕ

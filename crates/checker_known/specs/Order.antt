@@ -1,13 +1,11 @@
 -- How far what is held stands in its order, and what stands together in it. It does not say what is held.
 use Rattle.std.specs.Prelude.{◌≡◌, ℕ, ◌<◌, ◌≤◌, Bool, true, false, List, length}
 use Rattle.std.specs.Prelude.{slice_index_or}
-use Rattle.std.specs.Ordering.{nat_cmp, ordering_then}
 use Rattle.std.specs.declared.cmp.Ordering.{Ordering}
 use Rattle.std.specs.declared.cmp.Ordering.TheVariants.{Less, Equal, Greater}
 use Rattle.checker_known.specs.Pairs.{told_around, told_at, told_of}
-use Rattle.checker_known.specs.declared.order.Group.{Group}
-use Rattle.checker_known.specs.declared.order.Group.TheVariants as group
-use Rattle.checker_state.specs.State.{Held, Ordered, Stretched, held_order}
+use Rattle.checker_state.specs.declared.held.Group.{Group}
+use Rattle.checker_state.specs.State.{Held, group_of, group_order, held_order}
 
 -- ---- disorder
 
@@ -36,10 +34,7 @@ wrong_around place held = told_around out_of_order place held
 
 -- how something that is held stands to those that stand together
 abbrev pub stands : Group → Held → Ordering
-stands (group.Row row) (Stretched stretch) = nat_cmp stretch.row row
-stands (group.Row row) (Ordered one another number) = Greater
-stands (group.Pair root other) (Stretched stretch) = Less
-stands (group.Pair root other) (Ordered one another number) = ordering_then (nat_cmp one root) (nat_cmp another other)
+stands place one = group_order (group_of one) place
 
 -- it comes before them, or is among them and these count too
 abbrev pub comes_before : (with_them : Bool) → Ordering → Bool

@@ -7,16 +7,10 @@ use Rattle.std.specs.Ordering.{eq_by_cmp}
 use Rattle.std.specs.List.{list_any}
 use Rattle.std.specs.Global.{Vec}
 use Rattle.checker_state.specs.declared.bound.Rebinding.{Rebinding}
-use Rattle.checker_state.specs.declared.bound.Rebinding.TheVariants as rebinding
 use Rattle.checker_state.specs.declared.held.Held.{Held as KeptHeld}
 use Rattle.checker_state.specs.State.{Held, held_order}
-use Rattle.checker_state.specs.View.{held_by, said_held}
+use Rattle.checker_state.specs.View.{held_by, root_of, said_held}
 use Rattle.checker_known.specs.declared.resting.Resting.{Resting}
-
--- the variable that is rebound
-abbrev pub root_of : Rebinding → ℕ
-root_of (rebinding.Changed root form) = root
-root_of (rebinding.InPlace root own) = root
 
 -- ---- lists
 

@@ -10,8 +10,7 @@ use Rattle.checker_known.specs.declared.knowledge.Row.{Row}
 use Rattle.checker_known.specs.declared.change.Change.{Change}
 use Rattle.checker_known.specs.declared.change.Change.TheVariants as change
 use Rattle.checker_state.specs.Growths.{joined_growth}
-use Rattle.checker_state.specs.State.{Facts, Held, Ordered, RowState, State, Stretched, Table, gives, has_number}
-use Rattle.checker_state.specs.State.{have_values, with_more}
+use Rattle.checker_state.specs.State.{Facts, Held, RowState, Table, gives, with_more}
 use Rattle.checker_state.specs.State.{is_whole, row_at}
 use Rattle.checker_known.specs.Knowledge.{Core, viewed}
 use Rattle.checker_state.specs.View.{said_held}
@@ -59,13 +58,6 @@ joined_at table one other = (
     growth = joined_growth (row_at one other.row).growth other.known.growth;
   },
 )
-
--- ---- what is held
-
--- the variables are defined on which it rests
-abbrev pub has_its_values : Table → State → Held → Bool
-has_its_values table state (Stretched stretch) = have_values table state stretch.spans
-has_its_values table state (Ordered root other number) = has_number table state root && has_number table state other
 
 -- ---- what is told
 

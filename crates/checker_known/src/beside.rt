@@ -4,7 +4,7 @@ ghost use Rattle.checker_state.specs.Stores.{is_at, longer, longer_by, longer_sp
 ghost use Rattle.checker_known.specs.Longer.{AreLonger};
 ghost use Rattle.checker_known.specs.Knowledge.{core, viewed};
 ghost use Rattle.checker_state.specs.View.{said_bound, said_held, said_more, said_point, said_span, said_span_form};
-ghost use Rattle.checker_state.specs.View.{said_spans, said_stretched};
+ghost use Rattle.checker_state.specs.View.{said_spans};
 
 use crate::Knowledge;
 use checker_state::{Bound, Held, Point, Span, Stretch};
@@ -65,41 +65,28 @@ impl Knowledge {
         ensures { said_more result
             ≡ longer (viewed (core self.now)) row (said_point point) (said_held held.now) }
     {
-        match held {
-            Held::Stretched(stretch) => {
-                if stretch.row != row {
-                    return None;
-                }
-                let longer = self.longer_stretch(point, *stretch)?;
-                Some(Held::Stretched(longer))
-            }
-            Held::Ordered(_) => None,
+        let stretch = held.stretch()?;
+        if stretch.row != row {
+            return None;
         }
+        self.longer_stretch(point, stretch)
     }
 
-    fn longer_stretch(&self, point: Point, stretch: Stretch) -> Option<Stretch>
-        ensures { said_stretched result
+    fn longer_stretch(&self, point: Point, stretch: Stretch) -> Option<Held>
+        ensures { said_more result
             ≡ longer_by (viewed (core self.now)) stretch.row (said_point point) (said_spans stretch) }
     {
         match (point.inner, stretch.inner) {
             (None, None) => {
                 let span = self.longer_span(point.index, stretch.span)?;
-                Some(Stretch {
-                    row: stretch.row,
-                    span,
-                    inner: None,
-                })
+                Some(Held::within(stretch.row, span, None))
             }
             (Some(index), Some(inner)) => {
                 if !self.is_at(point.index, stretch.span) {
                     return None;
                 }
                 let inner = self.longer_span(index, inner)?;
-                Some(Stretch {
-                    row: stretch.row,
-                    span: Span::at(point.index),
-                    inner: Some(inner),
-                })
+                Some(Held::within(stretch.row, Span::at(point.index), Some(inner)))
             }
             _ => None,
         }

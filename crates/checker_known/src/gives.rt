@@ -1,18 +1,18 @@
-ghost use Rattle.std.specs.Prelude.{◌≡◌, map, pos};
+ghost use Rattle.std.specs.Prelude.{◌≡◌, ◌∷◌, map, pos};
 ghost use Rattle.std.specs.List.{list_any};
 ghost use Rattle.checker_state.specs.Bounds.{raised_bound};
-ghost use Rattle.checker_state.specs.State.{Live, bound_range, gives, gives_claim, gives_stretch, has_number};
-ghost use Rattle.checker_state.specs.State.{has_value, has_values, have_values, is_empty, is_next, is_whole};
+ghost use Rattle.checker_state.specs.State.{Live, bound_range, gives, gives_claim, gives_stretch, has_its_values};
+ghost use Rattle.checker_state.specs.State.{has_number, has_value, has_values, have_values, is_empty, is_next};
+ghost use Rattle.checker_state.specs.State.{is_whole};
 ghost use Rattle.checker_state.specs.State.{le, lies_below};
 ghost use Rattle.checker_state.specs.State.{says_at_most, table_of};
-ghost use Rattle.checker_state.specs.View.{AreEnds, said_bound, said_claim, said_held, said_order, said_span};
-ghost use Rattle.checker_state.specs.View.{said_spans, said_stretch, said_term};
+ghost use Rattle.checker_state.specs.View.{AreEnds, inner_spans, said_bound, said_claim, said_held, said_order};
+ghost use Rattle.checker_state.specs.View.{said_span, said_spans, said_stretch, said_term};
 ghost use Rattle.checker_known.specs.Knowledge.{core, viewed};
-ghost use Rattle.checker_known.specs.Told.{has_its_values};
 
-use crate::{Group, Knowledge};
+use crate::Knowledge;
 use checker_rows::Rows;
-use checker_state::{Bound, Claim, Ends, Held, Order, Span, Stretch, Term};
+use checker_state::{Bound, Claim, Ends, Group, Held, Order, Span, Stretch, Term};
 use domain::Domain;
 
 impl Knowledge {
@@ -132,12 +132,13 @@ impl Knowledge {
         self.has_value(table, span.first) && self.has_value(table, span.last)
     }
 
-    // Whether those of the spans of a stretch have.
-    fn have_values(&self, table: &Rows, stretch: Stretch) -> bool
-        ensures { result ≡ have_values (table_of table.now) (Live (viewed (core self.now))) (said_spans stretch) }
+    // Whether those of a span have, and of an inner one, if there is one.
+    fn have_values(&self, table: &Rows, span: Span, inner: Option<Span>) -> bool
+        ensures { result ≡ have_values (table_of table.now) (Live (viewed (core self.now)))
+            (said_span span ∷ inner_spans inner) }
     {
-        self.has_values(table, stretch.span)
-            && match stretch.inner {
+        self.has_values(table, span)
+            && match inner {
                 None => true,
                 Some(inner) => self.has_values(table, inner),
             }
@@ -148,7 +149,7 @@ impl Knowledge {
     fn gives_stretch(&self, table: &Rows, stretch: Stretch) -> bool
         ensures { result ≡ gives_stretch (table_of table.now) (viewed (core self.now)) (said_stretch stretch) }
     {
-        self.have_values(table, stretch)
+        self.have_values(table, stretch.span, stretch.inner)
             && (self.has_empty(stretch)
                 || (self.is_whole(table, stretch.row) || self.is_had(table, stretch)))
     }
@@ -157,9 +158,9 @@ impl Knowledge {
     fn gives_order(&self, table: &Rows, order: Order) -> bool
         ensures { result ≡ gives (table_of table.now) (viewed (core self.now)) (said_order order) }
     {
+        let span = order.span();
         self.has_number(table, order.root)
-            && (self.has_number(table, order.other)
-                && self.is_at_most(Bound::plus(order.root, 0), order.last()))
+            && (self.has_number(table, order.other) && self.is_at_most(span.first, span.last))
     }
 
     /// Whether what may be held is given.
@@ -176,12 +177,8 @@ impl Knowledge {
     pub(crate) fn has_its_values(&self, table: &Rows, held: &Held) -> bool
         ensures { result ≡ has_its_values (table_of table.now) (Live (viewed (core self.now))) (said_held held.now) }
     {
-        match held {
-            Held::Stretched(stretch) => self.have_values(table, *stretch),
-            Held::Ordered(order) => {
-                self.has_number(table, order.root) && self.has_number(table, order.other)
-            }
-        }
+        let (span, inner) = held.ends();
+        self.have_values(table, span, inner)
     }
 
     /// Whether a claim is given.

@@ -8,9 +8,9 @@ ghost use Rattle.checker_state.specs.State.{is_joined, is_spanned, joins, wanted
 ghost use Rattle.checker_state.specs.View.{inner_spans, said_held, said_span, said_spans};
 ghost use Rattle.checker_known.specs.Knowledge.{core, viewed};
 
-use crate::{Group, Knowledge};
+use crate::Knowledge;
 use checker_rows::Rows;
-use checker_state::{Held, Span, Stretch};
+use checker_state::{Group, Held, Span, Stretch};
 use domain::Extension;
 use types::OrdinalRange;
 
@@ -98,14 +98,12 @@ impl Knowledge {
         ensures { result ≡ covers (viewed (core self.now)) (indexes_at (rows_of table.now) wanted.row) wanted.row
             (map (wanted_of (viewed (core self.now))) (said_spans wanted)) (said_held held.now) }
     {
-        match held {
-            Held::Stretched(stretch) => {
-                wanted.row == stretch.row
-                    && self.has_span(wanted.span, stretch.span)
-                    && self.has_inner(table, wanted, stretch.inner)
-            }
-            Held::Ordered(_) => false,
-        }
+        let Some(stretch) = held.stretch() else {
+            return false;
+        };
+        wanted.row == stretch.row
+            && self.has_span(wanted.span, stretch.span)
+            && self.has_inner(table, wanted, stretch.inner)
     }
 
     // Whether it has it from the beginning on.
@@ -113,14 +111,12 @@ impl Knowledge {
         ensures { result ≡ begins (viewed (core self.now)) (indexes_at (rows_of table.now) wanted.row) wanted.row
             (map (wanted_of (viewed (core self.now))) (said_spans wanted)) (said_held held.now) }
     {
-        match held {
-            Held::Stretched(stretch) => {
-                wanted.row == stretch.row
-                    && self.is_at_most(stretch.span.first, wanted.span.first)
-                    && self.has_inner(table, wanted, stretch.inner)
-            }
-            Held::Ordered(_) => false,
-        }
+        let Some(stretch) = held.stretch() else {
+            return false;
+        };
+        wanted.row == stretch.row
+            && self.is_at_most(stretch.span.first, wanted.span.first)
+            && self.has_inner(table, wanted, stretch.inner)
     }
 
     // Whether another has the rest behind it: it begins at the latest behind its last index.
@@ -128,15 +124,13 @@ impl Knowledge {
         ensures { result ≡ joins (viewed (core self.now)) (indexes_at (rows_of table.now) wanted.row) wanted.row
             (map (wanted_of (viewed (core self.now))) (said_spans wanted)) (said_held one.now) (said_held other.now) }
     {
-        match (one, other) {
-            (Held::Stretched(one), Held::Stretched(other)) => {
-                wanted.row == other.row
-                    && self.is_beside(other.span.first, one.span.last)
-                    && self.is_at_most(wanted.span.last, other.span.last)
-                    && self.has_inner(table, wanted, other.inner)
-            }
-            _ => false,
-        }
+        let (Some(one), Some(other)) = (one.stretch(), other.stretch()) else {
+            return false;
+        };
+        wanted.row == other.row
+            && self.is_beside(other.span.first, one.span.last)
+            && self.is_at_most(wanted.span.last, other.span.last)
+            && self.has_inner(table, wanted, other.inner)
     }
 
     // Whether a span is known to have all that another has.

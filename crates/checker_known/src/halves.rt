@@ -2,8 +2,8 @@ ghost use Rattle.std.specs.Prelude.{◌≡◌, ◌≤◌, length, map};
 ghost use Rattle.checker_state.specs.View.{said_held};
 ghost use Rattle.checker_known.specs.Halves.{Falls, IsEdge, first_of, last_of, passes, spans_of};
 
-use crate::Group;
-use checker_state::Held;
+use crate::order::is_behind;
+use checker_state::{Group, Held};
 
 /// A test that those pass of what is held that stand first.
 #[derive(Clone, Copy)]
@@ -25,8 +25,8 @@ impl Test {
         ensures { result ≡ passes self (said_held held.now) }
     {
         match self {
-            Test::Before(group) => group.is_behind(held, false),
-            Test::UpTo(group) => group.is_behind(held, true),
+            Test::Before(group) => is_behind(group, held, false),
+            Test::UpTo(group) => is_behind(group, held, true),
             Test::Below(other) => other.compare(held).is_gt(),
             Test::EndsBelow(number) => last_number(held) < number,
             Test::BeginsBelow(number) => first_number(held) < number,
@@ -37,18 +37,18 @@ impl Test {
 fn first_number(held: &Held) -> i64
     ensures { result ≡ first_of (spans_of (said_held held.now)) }
 {
-    match held {
-        Held::Stretched(stretch) => i64::from(stretch.span.first.number),
-        Held::Ordered(_) => 0,
+    match held.stretch() {
+        None => 0,
+        Some(stretch) => i64::from(stretch.span.first.number),
     }
 }
 
 fn last_number(held: &Held) -> i64
     ensures { result ≡ last_of (spans_of (said_held held.now)) }
 {
-    match held {
-        Held::Stretched(stretch) => i64::from(stretch.span.last.number),
-        Held::Ordered(_) => 0,
+    match held.stretch() {
+        None => 0,
+        Some(stretch) => i64::from(stretch.span.last.number),
     }
 }
 

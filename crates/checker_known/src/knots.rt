@@ -5,8 +5,8 @@ ghost use Rattle.checker_known.specs.Knots.{IsLoose, goes_on, is_plain, knot, kn
 ghost use Rattle.checker_known.specs.Longer.{AreNear};
 ghost use Rattle.checker_known.specs.Knowledge.{core, viewed};
 
-use crate::{Group, Knowledge, Test, edge};
-use checker_state::{Held, Point, Span, Stretch};
+use crate::{Knowledge, Test, edge};
+use checker_state::{Group, Held, Point, Span, Stretch};
 
 /// The rows in which knots went, or came, at a place and the next.
 pub(crate) type Knots = (Option<usize>, Option<usize>);
@@ -29,16 +29,12 @@ fn goes_on(one: &Stretch, other: &Stretch) -> bool
 fn knot(one: &Held, other: &Held) -> Option<usize>
     ensures { result ≡ knot (said_held one.now) (said_held other.now) }
 {
-    match (one, other) {
-        (Held::Stretched(one), Held::Stretched(other)) => {
-            if one.row == other.row && !goes_on(one, other) {
-                Some(one.row)
-            } else {
-                None
-            }
-        }
-        (Held::Stretched(_), Held::Ordered(_)) => None,
-        (Held::Ordered(_), _) => None,
+    let one = one.stretch()?;
+    let other = other.stretch()?;
+    if one.row == other.row && !goes_on(&one, &other) {
+        Some(one.row)
+    } else {
+        None
     }
 }
 

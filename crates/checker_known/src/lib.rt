@@ -19,6 +19,6 @@ pub use beside::Beside;
 pub use change::{Branch, Change};
 pub(crate) use halves::{Test, edge};
 pub use knowledge::{Knowledge, Row};
-pub(crate) use order::{Group, wrong_around, wrong_at};
+pub(crate) use order::{wrong_around, wrong_at};
 pub use resting::Resting;
 pub use told::{Arrival, Asked, Told};

@@ -5,42 +5,17 @@ ghost use Rattle.checker_known.specs.Order.{AreBetween, AreOf, comes_before, sta
 ghost use Rattle.checker_known.specs.Knowledge.{IsPlace};
 
 use crate::{Knowledge, Test, edge};
-use checker_state::Held;
+use checker_state::{Group, Held};
 use std::cmp::Ordering;
 
-/// What stands together in the order of what is held.
-#[derive(Clone, Copy)]
-pub(crate) enum Group {
-    /// The stretches of a row.
-    Row(usize),
-    /// The orders of two variables.
-    Pair(u32, u32),
-}
-
-impl Group {
-    // How something that is held stands to it.
-    fn compare(self, held: &Held) -> Ordering
-        ensures { result ≡ stands self (said_held held.now) }
-    {
-        match (self, held) {
-            (Group::Row(row), Held::Stretched(stretch)) => stretch.row.cmp(&row),
-            (Group::Row(_), Held::Ordered(_)) => Ordering::Greater,
-            (Group::Pair(_, _), Held::Stretched(_)) => Ordering::Less,
-            (Group::Pair(root, other), Held::Ordered(order)) => {
-                order.root.cmp(&root).then(order.other.cmp(&other))
-            }
-        }
-    }
-
-    /// Whether something that is held comes before it, or also whether it stands in it.
-    pub(crate) fn is_behind(self, held: &Held, with_itself: bool) -> bool
-        ensures { result ≡ comes_before with_itself (stands self (said_held held.now)) }
-    {
-        match self.compare(held) {
-            Ordering::Less => true,
-            Ordering::Equal => with_itself,
-            Ordering::Greater => false,
-        }
+/// Whether something that is held comes before a group, or also whether it stands in it.
+pub(crate) fn is_behind(group: Group, held: &Held, with_itself: bool) -> bool
+    ensures { result ≡ comes_before with_itself (stands group (said_held held.now)) }
+{
+    match held.group().compare(group) {
+        Ordering::Less => true,
+        Ordering::Equal => with_itself,
+        Ordering::Greater => false,
     }
 }
 

@@ -3,7 +3,6 @@ ghost use Rattle.checker_state.specs.View.{said_held};
 ghost use Rattle.checker_known.specs.Knowledge.{AllGrew, core};
 ghost use Rattle.checker_known.specs.Resting.{AreChanging, AreFound, HasAllAt, HaveAll, IsFound, listed};
 
-use crate::resting::root_of;
 use crate::{Knowledge, Test, edge};
 use checker_state::{Held, Rebinding};
 use std::alloc::{AllocError, Global};
@@ -27,7 +26,7 @@ impl Knowledge {
         if self.disorder > 0 || !self.resting.is_whole {
             return Ok(None);
         }
-        let root = root_of(how) as usize;
+        let root = how.root() as usize;
         if root >= self.resting.lists.len() {
             return Ok(None);
         }

@@ -1,10 +1,9 @@
-ghost use Rattle.std.specs.Prelude.{◌≡◌, ◌||◌, ◌<◌, IfOk, None, OnOk, Some, length, map, nat_eq, true};
-ghost use Rattle.checker_state.specs.Changes.{bound_rests_on, ordered, rests_on, span_rests_on};
-ghost use Rattle.checker_state.specs.State.{Stretched};
-ghost use Rattle.checker_state.specs.View.{said_bound, said_held, said_order, said_span, said_stretch};
-ghost use Rattle.checker_known.specs.Resting.{Lists, ListsMore, Puts, root_of};
+ghost use Rattle.std.specs.Prelude.{◌≡◌, ◌<◌, IfOk, None, OnOk, length, map, nat_eq, true};
+ghost use Rattle.checker_state.specs.Changes.{bound_rests_on, span_rests_on};
+ghost use Rattle.checker_state.specs.View.{said_bound, said_held, said_span};
+ghost use Rattle.checker_known.specs.Resting.{Lists, ListsMore, Puts};
 
-use checker_state::{Bound, Held, Order, Rebinding, Span, Stretch};
+use checker_state::{Bound, Held, Span};
 use memory::Refused;
 use std::alloc::{AllocError, AllocFailed, Global};
 
@@ -52,9 +51,14 @@ impl Resting {
         ensures lists { self.new.is_whole ≡ true → ListsMore (said_held held.now) self.old self.new }
         ensures told { self.new.refused ≡ None → self.old.refused ≡ None }
     {
-        match held {
-            Held::Stretched(stretch) => self.list_stretch(stretch, held),
-            Held::Ordered(order) => self.list_order(order, held),
+        if !held.is_settled() {
+            self.is_whole = false;
+            return;
+        }
+        let (span, inner) = held.ends();
+        self.list_span(span, held);
+        if let Some(inner) = inner {
+            self.list_span(inner, held);
         }
     }
 
@@ -65,18 +69,6 @@ impl Resting {
         match self.refused {
             Some(refused) => Err(refused.into()),
             None => Ok(()),
-        }
-    }
-
-    // Lists something by the variables of a stretch.
-    fn list_stretch(&mut self, stretch: &Stretch, held: &Held)
-        ensures lists { self.new.is_whole ≡ true → Lists (λ root. rests_on root (Stretched (said_stretch stretch.now)))
-            (said_held held.now) self.old self.new }
-        ensures told { self.new.refused ≡ None → self.old.refused ≡ None }
-    {
-        self.list_span(stretch.span, held);
-        if let Some(inner) = stretch.inner {
-            self.list_span(inner, held);
         }
     }
 
@@ -96,23 +88,6 @@ impl Resting {
     {
         if let Some(root) = bound.root {
             self.list_at(root, held);
-        }
-    }
-
-    // Lists something by the variables of an order. One whose number facts don't have may go at any rebinding.
-    fn list_order(&mut self, order: &Order, held: &Held)
-        ensures lists { self.new.is_whole ≡ true → Lists (λ root. nat_eq root order.now.root
-            || nat_eq root order.now.other) (said_held held.now) self.old self.new }
-        ensures number { self.new.is_whole ≡ true → ordered order.now.root order.now.other order.now.number
-            ≡ Some (said_order order.now) }
-        ensures told { self.new.refused ≡ None → self.old.refused ≡ None }
-    {
-        match Order::new(order.root, order.other, i64::from(order.number)) {
-            None => self.is_whole = false,
-            Some(_) => {
-                self.list_at(order.root, held);
-                self.list_at(order.other, held);
-            }
         }
     }
 
@@ -144,15 +119,5 @@ fn put(list: &mut Vec<Held>, held: &Held) -> Result<(), AllocFailed<Held>>
     match list.last() {
         Some(last) if last.is_same(held) => Ok(()),
         _ => list.push(*held),
-    }
-}
-
-/// The variable that is rebound.
-pub(crate) fn root_of(how: Rebinding) -> u32
-    ensures { result ≡ root_of how }
-{
-    match how {
-        Rebinding::Changed { root, .. } => root,
-        Rebinding::InPlace { root, .. } => root,
     }
 }

@@ -13,7 +13,7 @@ use Rattle.domain.specs.Facts.{Path}
 use Rattle.checker_rows.specs.Limits.{row_limits}
 use Rattle.checker_rows.specs.Rows.{Named, index_at, part_named, rows_of, rows_touched, rows_under}
 use Rattle.checker_state.specs.Bounds.{Bound, constant, plus}
-use Rattle.checker_state.specs.State.{Claim, Defined, Holds, Ordered, Range, Span, State, Stretched, table_of}
+use Rattle.checker_state.specs.State.{Claim, Defined, Range, Span, State, at_most_by, in_spans, table_of}
 use Rattle.checker_state.specs.Loops.{gives_all, head, is_among}
 use Rattle.checker_state.specs.Stores.{all_of_row}
 use Rattle.checker_loops.specs.Pairs.{Listed, all_aliases_in}
@@ -48,8 +48,7 @@ said_span span = record { first = said_bound span.first; last = said_bound span.
 -- what is defined of a row: all of it, or what lies in spans
 abbrev pub defined_of : Tree → List fact.Span → ℕ → Claim
 defined_of tree [] row = all_of_row (index_at (rows_of tree) row) row
-defined_of tree (span ∷ spans) row =
-    Holds (Stretched (record { row = row; spans = said_span span ∷ map said_span spans }))
+defined_of tree (span ∷ spans) row = in_spans row (said_span span ∷ map said_span spans)
 
 -- what is asked for that: all of a row is asked of the row, so that two stretches that meet don't give it together
 abbrev pub asked_of : Tree → List fact.Span → ℕ → Claim
@@ -60,7 +59,7 @@ asked_of tree (span ∷ spans) row = defined_of tree (span ∷ spans) row
 abbrev pub said_by : (List fact.Span → ℕ → Claim) → Tree → fact.Fact → List Claim
 said_by defined tree (fact.Range path range) = map (λ row. Range row range) (rows_named tree path)
 said_by defined tree (fact.Defined path spans) = map (defined spans) (rows_named tree path)
-said_by defined tree (fact.Order root other number) = Holds (Ordered root other number) ∷ []
+said_by defined tree (fact.Order root other number) = at_most_by root other number ∷ []
 said_by defined tree (fact.Grows root growth) = []
 
 -- of a growth nothing: it goes by finished turns, and is no claim that each turn keeps (`Growths.antt`)

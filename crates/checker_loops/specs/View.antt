@@ -13,7 +13,7 @@ use Rattle.certificate.specs.Contents.{LoopClaims, loop_of, said_fact}
 use Rattle.domain.specs.Facts.{Fact, Range, Defined, Order, Grows, Span}
 use Rattle.checker_rows.specs.Limits.{integer}
 use Rattle.checker_state.specs.State as state
-use Rattle.checker_state.specs.State.{Claim, Holds, Ordered}
+use Rattle.checker_state.specs.State.{Claim, at_most_by}
 use Rattle.typed_tree.specs.declared.tree.Tree.{Tree}
 use Rattle.checker_loops.specs.declared.loops.Claims.{Claims as KeptClaims}
 use Rattle.checker_loops.specs.declared.rounds.Round.{Round as KeptRound}
@@ -40,7 +40,7 @@ rows_said tree (Grows root growth) = []
 abbrev pub claim_by : (List Span → ℕ → Claim) → Fact → ℕ → Claim
 claim_by defined (Range path range) row = state.Range row range
 claim_by defined (Defined path spans) row = defined spans row
-claim_by defined (Order root other number) row = Holds (Ordered root other number)
+claim_by defined (Order root other number) row = at_most_by root other number
 claim_by defined (Grows root growth) row = state.Range row integer
 
 abbrev pub claim_at : Tree → Fact → ℕ → Claim

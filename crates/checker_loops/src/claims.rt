@@ -13,7 +13,7 @@ ghost use Rattle.checker_loops.specs.View.{asked_at, claim_at, rows_said};
 
 use certificate::Fact;
 use checker_rows::{Rows, Span};
-use checker_state::{Bound, Claim, Held, Order, Stretch};
+use checker_state::{Bound, Claim};
 use checker_trail::{State, all_of_row};
 use domain::Interval;
 use domain::facts::{self, Path, Spans};
@@ -88,11 +88,7 @@ fn claim_at(rows: &Rows, fact: &Fact, row: usize) -> Claim
             root,
             other,
             number,
-        } => Claim::Holds(Held::Ordered(Order {
-            root: *root,
-            other: *other,
-            number: *number,
-        })),
+        } => Claim::at_most_by(*root, *other, *number),
         Fact::Grows { .. } => Claim::Range {
             row,
             range: Interval::INTEGER,
@@ -119,16 +115,8 @@ fn defined_of(rows: &Rows, spans: Spans, row: usize) -> Claim
 {
     match spans {
         Spans::None => all_of_row(rows.index(row), row),
-        Spans::One(span) => Claim::Holds(Held::Stretched(Stretch {
-            row,
-            span: kept_span(span),
-            inner: None,
-        })),
-        Spans::Two(span, inner) => Claim::Holds(Held::Stretched(Stretch {
-            row,
-            span: kept_span(span),
-            inner: Some(kept_span(inner)),
-        })),
+        Spans::One(span) => Claim::in_spans(row, kept_span(span), None),
+        Spans::Two(span, inner) => Claim::in_spans(row, kept_span(span), Some(kept_span(inner))),
     }
 }
 

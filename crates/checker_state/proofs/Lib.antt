@@ -17,4 +17,6 @@ pub mod Knows
 pub mod OfTree
 pub mod FormsOf
 pub mod HeldOrders
+pub mod HeldGiven
+pub mod Settled
 pub mod Valued

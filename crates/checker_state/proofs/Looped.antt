@@ -1,57 +1,37 @@
 -- What is known at the head of a loop, and behind it with a bound in its control variable's place, holds.
-use Rattle.std.proofs.Common.{arith, ◌≡◌, ⊎_elim, ◌∙◌, sym, ap, refl, subst, ℕ, ℤ, ◌<◌, ◌≤◌, true, false, nat_eq, ◌||◌, List, [], ◌∷◌, get_or, length}
+use Rattle.std.proofs.Common.{arith, ◌≡◌, ⊎_elim, ◌∙◌, sym, ap, refl, subst, ℕ, ℤ, ◌<◌, ◌≤◌, true, false, nat_eq, List, [], ◌∷◌, get_or, length}
 use Rattle.std.proofs.Common.{Option, Some, None}
-use Rattle.std.specs.List.{All, Contains, filter_map, list_any}
+use Rattle.std.specs.List.{All, Contains, filter_map}
 use Rattle.std.proofs.lemmas.Bool.{cases_lt, and_parts, ne_eqb, or_from}
 use Rattle.std.proofs.lemmas.List.{length-set}
 use Rattle.std.proofs.lemmas.List.Elements.{All-cons, All-head, All-nil, All-tail}
-use Rattle.std.proofs.lemmas.Option.{none-some, same_Some}
+use Rattle.std.proofs.lemmas.Option.{none-some}
 use Rattle.domain.specs.Interval.{Interval, common}
 use Rattle.types.specs.declared.form.Step.{Step}
 use Rattle.meaning.specs.declared.value.Value.{Value}
 use Rattle.meaning.specs.Store.{Environment, Store}
 use Rattle.checker_rows.specs.Rows.{Parts, first_index, no_parts}
 use Rattle.checker_state.specs.Bounds.{Bound}
-use Rattle.checker_state.specs.State.{Claim, Dead, Defined, Facts, Held, Holds as Holding, Live, Ordered, Range, Span, State, Stretched, Table, range_of}
+use Rattle.checker_state.specs.State.{Claim, Dead, Defined, Facts, Held, Holds as Holding, Live, Range, State, Table, range_of}
 use Rattle.checker_state.specs.State.{row_at}
 use Rattle.checker_state.specs.State.{state_gives, with_growth, with_range}
-use Rattle.checker_state.specs.Changes.{all_changed, all_with_bounds, bound_rests_on, changed, changed_bound, in_place, rests_on, span_rests_on}
-use Rattle.checker_state.specs.Changes.{with_bounds}
+use Rattle.checker_state.specs.Changes.{all_changed, changed, in_place, rests_on}
 use Rattle.checker_state.specs.Loops.{after_turns, all_forgotten, gives_all, is_among, replaced, with_claim, with_claims, with_forgotten, with_limits}
 use Rattle.checker_state.specs.Holds.{GrowthHolds, HasNumber, HeldHolds, HoldNumbers, Holds, IsBound, IsOfRow, Moment, StateHolds, ValuesLie, moment}
 use Rattle.checker_state.specs.Knows.{AreEntire, AreRows, AreUntouched, InLimits, IsKept, Knows, rests_on_any}
 use Rattle.checker_state.specs.Laws.{HeadsHold}
-use Rattle.checker_state.proofs.Changed.{StaysDefined, between-some, both-some, held-stays, placed-holds, stretch-some, unless-some}
+use Rattle.checker_state.proofs.Changed.{StaysDefined, held-stays, placed-holds, unless-some}
 use Rattle.checker_state.proofs.Given.{given-holds}
 use Rattle.checker_state.proofs.Lists.{head-or_tail, in-filter_map, in-none, in-tail, at-head, with_more-each}
 use Rattle.checker_state.proofs.Ranged.{common-in}
 use Rattle.checker_state.proofs.Rows.{HoldsWhere, RowWhere, defined-holds, forgotten-where, growth-set, growth-stays, held-holds, range-holds, range-where}
 use Rattle.checker_state.proofs.Rows.{root-own, row-grown, where-all}
+use Rattle.checker_state.proofs.Settled.{one-kept}
 
 -- ---- what rests on no variable that changed
 
-spans-unchanged : (root : ℕ) (spans others : List Span) → all_with_bounds (changed_bound root None) spans ≡ Some others
-    → (list_any (span_rests_on root) spans ≡ false) × (spans ≡ others)
-spans-unchanged root [] others is = (refl, same_Some [] others is)
-spans-unchanged root (span ∷ spans) others is =
-    let change = changed_bound root None in
-    let (new, more, new_is, more_is, same) = both-some (with_bounds change span) (all_with_bounds change spans) others is in
-    let ends = between-some (change span.first) (change span.last) new new_is in
-    let first = unless-some (bound_rests_on root span.first) span.first new.first ends.0 in
-    let last = unless-some (bound_rests_on root span.last) span.last new.last ends.1 in
-    let rest = spans-unchanged root spans more more_is in (
-      or_from (span_rests_on root span) (list_any (span_rests_on root) spans)
-          (or_from (bound_rests_on root span.first) (bound_rests_on root span.last) first.0 last.0) rest.0,
-      ap (λ (b : Bound). record { first = b; last = span.last } ∷ spans) first.1 ∙ ap (λ (b : Bound). record { first = new.first; last = b } ∷ spans) last.1
-          ∙ ap (λ (s : List Span). new ∷ s) rest.1 ∙ same,
-    )
-
 pub unchanged : (root : ℕ) (one other : Held) → changed root None one ≡ Some other → (rests_on root one ≡ false) × (one ≡ other)
-unchanged root (Stretched stretch) other is =
-    let (spans, spans_are, same) = stretch-some stretch.row (all_with_bounds (changed_bound root None) stretch.spans) other is in
-    let parts = spans-unchanged root stretch.spans spans spans_are in
-    (parts.0, ap (λ (s : List Span). Stretched (record { row = stretch.row; spans = s })) parts.1 ∙ same)
-unchanged root (Ordered a b number) other is = unless-some (nat_eq root a || nat_eq root b) (Ordered a b number) other is
+unchanged root one other is = unless-some (rests_on root one) one other (sym (one-kept root one) ∙ is)
 
 module _ (rows : List Parts) (m : Moment) where
   -- a state that some run comes to, of which so much is claimed

@@ -13,11 +13,10 @@ use Rattle.meaning.specs.Store.{Environment, Store}
 use Rattle.checker_rows.specs.Rows.{Parts, first_index, indexes_of, no_parts}
 use Rattle.checker_state.specs.Bounds.{Bound}
 use Rattle.checker_state.specs.declared.growing.Growing.{Growing}
-use Rattle.checker_state.specs.State.{Dead, Facts, Held, Live, Ordered, Span, State, Stretch, Stretched, Table, is_next, le, range_of, row_at, with_defined}
+use Rattle.checker_state.specs.State.{Dead, Facts, Held, Live, Ordered, Span, State, Stretched, Table, is_next, le, range_of, row_at, stretched, with_defined}
 use Rattle.checker_state.specs.State.{with_range}
-use Rattle.checker_state.specs.State.{with_row}
 use Rattle.checker_state.specs.Loops.{is_among}
-use Rattle.checker_state.specs.Stores.{Index, Reach, all_stored, at_indexes, is_at, is_none, longer, longer_by, longer_of, longer_span, or_alone, point}
+use Rattle.checker_state.specs.Stores.{Index, Reach, all_stored, is_at, is_none, longer, longer_by, longer_of, longer_span, or_alone, point}
 use Rattle.checker_state.specs.Stores.{stored, stored_at, with_both, with_joined, with_some_element}
 use Rattle.checker_state.specs.Holds.{AreBounds, FactsHold, GrowthHolds, HasComponent, HeldHolds, IsBound, IsIn, IsOfRow, LieBetween, Moment, Numbers}
 use Rattle.checker_state.specs.Holds.{StateHolds, StretchHolds, component_at, moment, value_at}
@@ -37,10 +36,10 @@ Pending stores row = (one : ℕ × Interval) × Contains stores one × (one.0 �
 least-cases : (x y : ℤ) → x ≤ℤ (y +ℤ pos 1) → (x ≤ℤ y) ⊎ (x ≡ (y +ℤ pos 1))
 least-cases x y less = by_lt_z x (y +ℤ pos 1) (λ below. inl (omega (arith, ints))) (λ above. inr (omega (arith, ints)))
 
-or_alone-each : (P : Held → Type 0) (row : ℕ) (bounds : List Bound) (list : List Held) → P (Stretched (at_indexes row bounds)) → Each P list
+or_alone-each : (P : Held → Type 0) (row : ℕ) (bounds : List Bound) (list : List Held) → P (stretched row (map point bounds)) → Each P list
     → Each P (or_alone row bounds list)
 or_alone-each P row bounds [] so each one inside =
-    ⊎_elim (λ same. subst P same so) (λ none. absurd (in-none one none)) (head-or_tail (Stretched (at_indexes row bounds)) one [] inside)
+    ⊎_elim (λ same. subst P same so) (λ none. absurd (in-none one none)) (head-or_tail (stretched row (map point bounds)) one [] inside)
 or_alone-each P row bounds (first ∷ list) so each one inside = each one inside
 
 -- one of two tests passed
@@ -51,9 +50,9 @@ either-some false true one more other is = inr (refl, same_Some more other is)
 either-some false false one more other is = absurd (none-some other is)
 
 longer-some : (row : ℕ) (front : List Bound) (found : Option Span) (other : Held) → longer_of row front found ≡ Some other
-    → (span : Span) × (found ≡ Some span) × (Stretched (record { row = row; spans = map point front ++ span ∷ [] }) ≡ other)
+    → (span : Span) × (found ≡ Some span) × (stretched row (map point front ++ span ∷ []) ≡ other)
 longer-some row front None other is = absurd (none-some other is)
-longer-some row front (Some span) other is = (span, refl, same_Some (Stretched (record { row = row; spans = map point front ++ span ∷ [] })) other is)
+longer-some row front (Some span) other is = (span, refl, same_Some (stretched row (map point front ++ span ∷ [])) other is)
 
 -- ---- single indexes
 
@@ -243,7 +242,7 @@ module _ (rows : List Parts) (table : Table) (are : AreRows rows table) (env : E
         held = holds.held;
       }
 
-      alone-holds : HoldsAfter (Stretched (at_indexes row bounds))
+      alone-holds : HoldsAfter (stretched row (map point bounds))
       alone-holds = (
         map just numbers,
         points-are After bounds numbers at,
@@ -256,7 +255,7 @@ module _ (rows : List Parts) (table : Table) (are : AreRows rows table) (env : E
         ranged : (first last : Bound) (low high : ℤ) → IsBound After first low → IsBound After last high
             → ((steps : List Step) (index : ℤ) → IsOfRow rows row steps → first_index steps ≡ Some index
             → (there : Behind fronts (record { first = low; last = high }) (indexes_of steps)) → HasComponent rows After row steps)
-            → HoldsAfter (Stretched (record { row = row; spans = map point front ++ record { first = first; last = last } ∷ [] }))
+            → HoldsAfter (stretched row (map point front ++ record { first = first; last = last } ∷ []))
         ranged first last low high low_is high_is each = (
           map just fronts ++ record { first = low; last = high } ∷ [],
           points-then After front fronts (record { first = first; last = last }) (record { first = low; last = high }) front_are low_is high_is,
@@ -272,19 +271,19 @@ module _ (rows : List Parts) (table : Table) (are : AreRows rows table) (env : E
             → ((steps : List Step) (index : ℤ) → IsOfRow rows row steps → first_index steps ≡ Some index
             → LieBetween (map just fronts ++ record { first = from; last = to } ∷ []) (indexes_of steps) → HasComponent rows After row steps)
             → longer_span known bound span ≡ Some other
-            → HoldsAfter (Stretched (record { row = row; spans = map point front ++ other ∷ [] }))
+            → HoldsAfter (stretched row (map point front ++ other ∷ []))
         longer-holds span other from to from_is to_is each is =
             ⊎_elim
             (λ (up : (is_next known span.last bound ≡ true) × (record span { last = bound } ≡ other)).
             let behind = next-is rows After known told span.last bound to number to_is bound_is up.0 in
-            subst (λ (s : Span). HoldsAfter (Stretched (record { row = row; spans = map point front ++ s ∷ [] }))) up.1
+            subst (λ (s : Span). HoldsAfter (stretched row (map point front ++ s ∷ []))) up.1
             (ranged span.first bound from number from_is bound_is (λ steps index of_row first there.
             ⊎_elim (λ inside. each steps index of_row first (there.lie (record { first = from; last = to }) there.low inside))
             (λ beyond. own-has steps of_row (there.begin number (beyond ∙ sym behind)))
             (least-cases there.index to (let high = there.high in omega (arith, ints, behind, high))))))
             (λ (down : (is_next known bound span.first ≡ true) × (record span { first = bound } ≡ other)).
             let ahead = next-is rows After known told bound span.first number from bound_is from_is down.0 in
-            subst (λ (s : Span). HoldsAfter (Stretched (record { row = row; spans = map point front ++ s ∷ [] }))) down.1
+            subst (λ (s : Span). HoldsAfter (stretched row (map point front ++ s ∷ []))) down.1
             (ranged bound span.last number to bound_is to_is (λ steps index of_row first there.
             by_lt_z number there.index
             (λ above. each steps index of_row first (there.lie (record { first = from; last = to }) (omega (arith, ints, ahead, above)) there.high))
@@ -306,7 +305,7 @@ module _ (rows : List Parts) (table : Table) (are : AreRows rows table) (env : E
           by numbers refl (subst (λ (b : List Bound). AreNumbers After b numbers) bounds_are at) new new_is same
         where
           by : (all : List ℤ) → numbers ≡ all → AreNumbers After (one ∷ []) all → (new : Span) → longer_span known one span ≡ Some new
-              → Stretched (record { row = row; spans = new ∷ [] }) ≡ other → HoldsAfter other
+              → stretched row (new ∷ []) ≡ other → HoldsAfter other
           by [] all_are none new new_is same = absurd none
           by (number ∷ two ∷ all) all_are none new new_is same = absurd none.1
           by (number ∷ []) all_are (is_number, end) new new_is same =
@@ -335,7 +334,7 @@ module _ (rows : List Parts) (table : Table) (are : AreRows rows table) (env : E
               (omega (arith, ints, low, from), omega (arith, ints, to, high), lie.2)
 
           by : (all : List ℤ) → numbers ≡ all → AreNumbers After (one ∷ two ∷ []) all → is_at known one span ≡ true → (new : Span)
-              → longer_span known two within ≡ Some new → Stretched (record { row = row; spans = point one ∷ new ∷ [] }) ≡ other → HoldsAfter other
+              → longer_span known two within ≡ Some new → stretched row (point one ∷ new ∷ []) ≡ other → HoldsAfter other
           by [] all_are none at_one new new_is same = absurd none
           by (number ∷ []) all_are none at_one new new_is same = absurd none.1
           by (number ∷ next ∷ third ∷ all) all_are none at_one new new_is same = absurd none.1.1

@@ -19,6 +19,8 @@ use Rattle.domain.specs.declared.versions.Extension.TheVariants.{Blocks}
 use Rattle.domain.specs.declared.versions.Version.{Version}
 use Rattle.checker_state.specs.Bounds.{Bound, bound_order, constant, is_at_most, is_variable, plus, raised_bound}
 use Rattle.checker_state.specs.declared.growing.Growing.{Growing}
+use Rattle.checker_state.specs.declared.held.Group.{Group}
+use Rattle.checker_state.specs.declared.held.Group.TheVariants as group
 
 -- ---- states
 
@@ -108,6 +110,38 @@ with_value root range state = with_defined root (with_range root range state)
 -- no run goes on from an empty range
 abbrev pub unless_empty : Interval → State → State
 unless_empty range state = if is_vacant range then Dead else state
+
+-- ---- what is asked of what is held
+
+-- what lies in spans of a row is defined
+abbrev pub stretched : ℕ → List Span → Held
+stretched row spans = Stretched (record { row = row; spans = spans })
+
+-- the stretch that it is of, if it is of rows
+abbrev pub stretch_in : Held → Option Stretch
+stretch_in (Stretched stretch) = Some stretch
+stretch_in (Ordered root other number) = None
+
+-- the first variable of an order, and the bound that it is at most
+abbrev pub order_span : (root other : ℕ) → ℤ → Span
+order_span root other number = record { first = plus root (pos 0); last = plus other number }
+
+-- the spans between the bounds that it has: it rests on the variables of these
+abbrev pub ends_of : Held → List Span
+ends_of (Stretched stretch) = stretch.spans
+ends_of (Ordered root other number) = order_span root other number ∷ []
+
+-- with what it stands together: with the stretches of a row, or the orders of two variables
+abbrev pub group_of : Held → Group
+group_of (Stretched stretch) = group.Row stretch.row
+group_of (Ordered root other number) = group.Pair root other
+
+-- rows stand before pairs
+abbrev pub group_order : Group → Group → Ordering
+group_order (group.Row row) (group.Row other) = nat_cmp row other
+group_order (group.Row row) (group.Pair a b) = Less
+group_order (group.Pair a b) (group.Row row) = Greater
+group_order (group.Pair a b) (group.Pair c d) = ordering_then (nat_cmp a c) (nat_cmp b d)
 
 -- ---- the order of what is held: stretches by their rows and their spans, then orders by their variables
 
@@ -230,20 +264,29 @@ go_on known indexes wanted held next = false
 
 -- what is held of a row whose indexes are of these values
 module _ (known : Facts) (indexes : List OrdinalRange) (row : ℕ) (wanted : List Wanted) where
+  abbrev pub stretch_covers : Option Stretch → Bool
+  stretch_covers None = false
+  stretch_covers (Some stretch) = nat_eq row stretch.row && have_spans known indexes wanted stretch.spans
+
   -- it has all that is wanted
   abbrev pub covers : Held → Bool
-  covers (Stretched stretch) = nat_eq row stretch.row && have_spans known indexes wanted stretch.spans
-  covers (Ordered root other number) = false
+  covers one = stretch_covers (stretch_in one)
+
+  abbrev pub stretch_begins : Option Stretch → Bool
+  stretch_begins None = false
+  stretch_begins (Some stretch) = nat_eq row stretch.row && begin_in_time known indexes wanted stretch.spans
 
   -- it has it from the beginning on
   abbrev pub begins : Held → Bool
-  begins (Stretched stretch) = nat_eq row stretch.row && begin_in_time known indexes wanted stretch.spans
-  begins (Ordered root other number) = false
+  begins one = stretch_begins (stretch_in one)
+
+  abbrev pub stretches_join : (one other : Option Stretch) → Bool
+  stretches_join (Some one) (Some other) = nat_eq row other.row && go_on known indexes wanted one.spans other.spans
+  stretches_join one other = false
 
   -- another has the rest to the end
   abbrev pub joins : (one other : Held) → Bool
-  joins (Stretched one) (Stretched other) = nat_eq row other.row && go_on known indexes wanted one.spans other.spans
-  joins one other = false
+  joins one other = stretches_join (stretch_in one) (stretch_in other)
 
   -- one has it all, or two have it together
   abbrev pub is_covered : Bool
@@ -308,6 +351,10 @@ module _ (table : Table) where
   have_values state [] = true
   have_values state (span ∷ spans) = has_values state span && have_values state spans
 
+  -- the variables are defined on which something that is held rests
+  abbrev pub has_its_values : State → Held → Bool
+  has_its_values state one = have_values state (ends_of one)
+
   -- each component of a row is known to be defined: by the row, or since all its first indexes are held
   abbrev pub is_whole : Facts → ℕ → Bool
   is_whole known row = (row_at known row).is_defined || is_spanned known row (table.indexes row)
@@ -334,6 +381,13 @@ pub data Claim : Type 0 where
   Range : (row : ℕ) → Interval → Claim
   Defined : (row : ℕ) → Claim
   Holds : Held → Claim
+
+-- what lies in spans of a row is defined, and a variable is at most another plus a number
+abbrev pub in_spans : ℕ → List Span → Claim
+in_spans row spans = Holds (stretched row spans)
+
+abbrev pub at_most_by : (root other : ℕ) → ℤ → Claim
+at_most_by root other number = Holds (Ordered root other number)
 
 module _ (table : Table) where
   abbrev pub gives_claim : Facts → Claim → Bool

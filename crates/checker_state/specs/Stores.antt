@@ -7,9 +7,9 @@ use Rattle.types.specs.declared.form.OrdinalRange.{OrdinalRange}
 use Rattle.domain.specs.Interval.{Interval, joined}
 use Rattle.checker_state.specs.Bounds.{Bound, constant}
 use Rattle.checker_state.specs.Changes.{span_between}
-use Rattle.checker_state.specs.State.{Claim, Dead, Defined, Facts, Held, Holds, Live, Ordered, Span, State, Stretch}
-use Rattle.checker_state.specs.State.{Stretched, Table, all_of, is_dead, is_next, range_of, state_gives}
-use Rattle.checker_state.specs.State.{le, with_defined, with_more, with_range}
+use Rattle.checker_state.specs.State.{Claim, Dead, Defined, Facts, Held, Live, Span, State, Stretch, Table, all_indexes}
+use Rattle.checker_state.specs.State.{in_spans, is_dead, is_next, le, range_of, state_gives, stretch_in, stretched}
+use Rattle.checker_state.specs.State.{with_defined, with_more, with_range}
 use Rattle.meaning.specs.Integers.{is_integer_number}
 
 -- an index by its value: its form, and where it lies
@@ -40,14 +40,14 @@ is_entire reach = is_entire_by reach.is_all reach.indexes
 abbrev pub point : Bound → Span
 point index = record { first = index; last = index }
 
--- the stretch of single first indexes
-abbrev pub at_indexes : ℕ → List Bound → Stretch
-at_indexes row indexes = record { row = row; spans = map point indexes }
+-- those of single first indexes
+abbrev pub points : List Bound → List Span
+points indexes = map point indexes
 
 -- that each component of a row is defined: of one with indexes, all first indexes are
 abbrev pub all_of_row : Option OrdinalRange → ℕ → Claim
 all_of_row None row = Defined row
-all_of_row (Some range) row = Holds (Stretched (all_of row range))
+all_of_row (Some range) row = in_spans row (all_indexes range ∷ [])
 
 -- a bound of a number, if it is one that bounds have
 abbrev pub bound_of_number : ℤ → Option Bound
@@ -66,11 +66,11 @@ module _ (table : Table) where
   abbrev pub gives_some : State → ℕ → Option Span → Bool
   gives_some state row None = is_dead state
   gives_some state row (Some span) =
-      state_gives table state (Holds (Stretched (record { row = row; spans = span ∷ [] })))
+      state_gives table state (in_spans row (span ∷ []))
 
   abbrev pub gives_form : State → ℕ → Option Bound → Bool
   gives_form state row None = false
-  gives_form state row (Some form) = state_gives table state (Holds (Stretched (at_indexes row (form ∷ []))))
+  gives_form state row (Some form) = state_gives table state (in_spans row (point form ∷ []))
 
   abbrev pub gives_index : State → ℕ → Index → Bool
   gives_index state row one = gives_form state row one.form || gives_some state row (range_span one.range)
@@ -78,7 +78,7 @@ module _ (table : Table) where
   -- those of two, each by its form or by where it lies
   abbrev pub gives_block : State → ℕ → Option Span → Option Span → Bool
   gives_block state row (Some span) (Some inner) =
-      state_gives table state (Holds (Stretched (record { row = row; spans = span ∷ inner ∷ [] })))
+      state_gives table state (in_spans row (span ∷ inner ∷ []))
   gives_block state row span inner = false
 
   abbrev pub gives_inner : State → ℕ → Option Span → Index → Bool
@@ -115,7 +115,7 @@ is_at known one span =
 -- a stretch of single indexes and of a last span
 abbrev pub longer_of : ℕ → List Bound → Option Span → Option Held
 longer_of row front None = None
-longer_of row front (Some span) = Some (Stretched (record { row = row; spans = map point front ++ span ∷ [] }))
+longer_of row front (Some span) = Some (stretched row (map point front ++ span ∷ []))
 
 -- a stretch of so many spans that others make longer: of two spans the first has to be just the first index
 abbrev pub longer_by : Facts → ℕ → List Bound → List Span → Option Held
@@ -124,11 +124,14 @@ longer_by known row (one ∷ two ∷ []) (span ∷ inner ∷ []) =
     if is_at known one span then longer_of row (one ∷ []) (longer_span known two inner) else None
 longer_by known row indexes spans = None
 
+abbrev pub longer_stretch : Facts → ℕ → List Bound → Option Stretch → Option Held
+longer_stretch known row indexes None = None
+longer_stretch known row indexes (Some stretch) =
+    if nat_eq stretch.row row then longer_by known row indexes stretch.spans else None
+
 -- what is held of a row that first indexes make longer
 abbrev pub longer : Facts → ℕ → List Bound → Held → Option Held
-longer known row indexes (Stretched stretch) =
-    if nat_eq stretch.row row then longer_by known row indexes stretch.spans else None
-longer known row indexes (Ordered root other number) = None
+longer known row indexes one = longer_stretch known row indexes (stretch_in one)
 
 abbrev pub is_none : Option Held → Bool
 is_none None = true
@@ -136,7 +139,7 @@ is_none (Some held) = false
 
 -- stretches that became longer, or else that of the indexes alone
 abbrev pub or_alone : ℕ → List Bound → List Held → List Held
-or_alone row indexes [] = Stretched (at_indexes row indexes) ∷ []
+or_alone row indexes [] = stretched row (points indexes) ∷ []
 or_alone row indexes (held ∷ more) = held ∷ more
 
 -- the components of first indexes, one or two, are defined from here on: each stretch that they make longer becomes so,

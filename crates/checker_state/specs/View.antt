@@ -1,5 +1,5 @@
 -- What the program has of a state, as the definitions see it. It does not say what a state means.
-use Rattle.std.specs.Prelude.{◌≡◌, pos, List, [], ◌∷◌, Option, Some, None}
+use Rattle.std.specs.Prelude.{◌≡◌, ℕ, pos, false, List, [], ◌∷◌, Option, Some, None}
 use Rattle.domain.specs.Interval.{Interval}
 use Rattle.checker_state.specs.declared.bound.Bound.{Bound as KeptBound}
 use Rattle.checker_state.specs.declared.bound.Rebinding.{Rebinding}
@@ -22,7 +22,7 @@ use Rattle.checker_state.specs.Bounds.{Bound}
 use Rattle.checker_state.specs.Terms.{IsWithin, bound_of_parts}
 use Rattle.checker_state.specs.State.{Claim, Defined, Held, Holds, Ordered, Range, Span, Stretch, Stretched}
 use Rattle.checker_state.specs.Stores.{Index, Reach}
-use Rattle.checker_state.specs.Changes.{bound_in_place, changed, changed_bound, in_place}
+use Rattle.checker_state.specs.Changes.{bound_in_place, changed, changed_bound, in_place, rests_on}
 
 -- ---- bounds
 
@@ -73,6 +73,10 @@ said_spans stretch = said_span stretch.span ∷ inner_spans stretch.inner
 abbrev pub said_stretch : KeptStretch → Stretch
 said_stretch stretch = record { row = stretch.row; spans = said_spans stretch }
 
+abbrev pub said_stretch_form : Option KeptStretch → Option Stretch
+said_stretch_form None = None
+said_stretch_form (Some stretch) = Some (said_stretch stretch)
+
 abbrev pub said_stretched : Option KeptStretch → Option Held
 said_stretched None = None
 said_stretched (Some stretch) = Some (Stretched (said_stretch stretch))
@@ -120,3 +124,12 @@ bound_by (rebinding.InPlace root own) bound = bound_in_place root (said_bound ow
 abbrev pub held_by : Rebinding → Held → Option Held
 held_by (rebinding.Changed root form) held = changed root (said_form form) held
 held_by (rebinding.InPlace root own) held = in_place root (said_bound own) held
+
+-- the variable that is rebound
+abbrev pub root_of : Rebinding → ℕ
+root_of (rebinding.Changed root form) = root
+root_of (rebinding.InPlace root own) = root
+
+-- a rebinding of a variable on which it doesn't rest leaves it as it is
+abbrev pub IsSettled : Held → Type 0
+IsSettled one = (how : Rebinding) → rests_on (root_of how) one ≡ false → held_by how one ≡ Some one

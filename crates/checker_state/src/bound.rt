@@ -3,7 +3,7 @@ ghost use Rattle.checker_state.specs.Bounds.{bound_order, constant, is_variable,
 ghost use Rattle.checker_state.specs.Changes.{bound_rests_on, changed_bound_by};
 ghost use Rattle.checker_state.specs.Stores.{bound_of_number};
 ghost use Rattle.checker_state.specs.Terms.{IsFar};
-ghost use Rattle.checker_state.specs.View.{bound_by, said_bound, said_form};
+ghost use Rattle.checker_state.specs.View.{bound_by, root_of, said_bound, said_form};
 
 use std::cmp::Ordering;
 
@@ -21,6 +21,18 @@ pub enum Rebinding {
     Changed { root: u32, form: Option<Bound> },
     /// A bound stands in its place.
     InPlace { root: u32, own: Bound },
+}
+
+impl Rebinding {
+    /// The variable that is rebound.
+    pub fn root(self) -> u32
+        ensures { result ≡ root_of self }
+    {
+        match self {
+            Rebinding::Changed { root, .. } => root,
+            Rebinding::InPlace { root, .. } => root,
+        }
+    }
 }
 
 impl Bound {

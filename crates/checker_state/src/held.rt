@@ -1,16 +1,19 @@
-ghost use Rattle.std.specs.Prelude.{◌≡◌, ◌+ℤ◌, neg_ℤ, pos};
+ghost use Rattle.std.specs.Prelude.{◌≡◌, ◌∷◌, ◌+ℤ◌, neg_ℤ, pos, Some};
 ghost use Rattle.std.specs.Bool.{OnTrue};
 ghost use Rattle.std.specs.Cmp.Lexicographic.{slice_cmp};
-ghost use Rattle.checker_state.specs.Bounds.{plus};
 ghost use Rattle.checker_state.specs.Changes.{all_with_bounds, changed_order, in_place, ordered, raised, raised_number};
 ghost use Rattle.checker_state.specs.Changes.{span_between, stretch_of, unless_resting, with_bounds};
-ghost use Rattle.checker_state.specs.State.{Ordered, Stretched, all_indexes, all_of, held_order, says_at_most};
-ghost use Rattle.checker_state.specs.State.{span_order};
-ghost use Rattle.checker_state.specs.Stores.{at_indexes, point};
+ghost use Rattle.checker_state.specs.State.{Ordered, Stretched, all_indexes, all_of, at_most_by, ends_of, group_of};
+ghost use Rattle.checker_state.specs.State.{group_order};
+ghost use Rattle.checker_state.specs.State.{held_order, in_spans, order_span, says_at_most, span_order, stretch_in};
+ghost use Rattle.checker_state.specs.State.{stretched};
+ghost use Rattle.checker_state.specs.Stores.{point, points};
 ghost use Rattle.checker_state.specs.Terms.{IsWithin};
-ghost use Rattle.checker_state.specs.View.{bound_by, held_by, inner_spans, said_bound, said_form, said_held};
-ghost use Rattle.checker_state.specs.View.{said_more, said_ordered, said_point, said_span, said_span_form, said_spans};
-ghost use Rattle.checker_state.specs.View.{said_stretch, said_stretched, said_term};
+ghost use Rattle.checker_state.specs.View.{IsSettled, bound_by, held_by, inner_spans, said_bound, said_claim};
+ghost use Rattle.checker_state.specs.View.{said_form};
+ghost use Rattle.checker_state.specs.View.{said_held, said_more, said_order, said_ordered, said_point, said_span};
+ghost use Rattle.checker_state.specs.View.{said_span_form, said_spans, said_stretch, said_stretch_form, said_stretched};
+ghost use Rattle.checker_state.specs.View.{said_term};
 
 use crate::{Bound, Rebinding, Term};
 use domain::Interval;
@@ -55,6 +58,15 @@ pub enum Held {
     Stretched(Stretch),
     /// Two variables are, and they are in an order.
     Ordered(Order),
+}
+
+/// What stands together in the order of what is held.
+#[derive(Clone, Copy)]
+pub enum Group {
+    /// The stretches of a row.
+    Row(usize),
+    /// The orders of two variables.
+    Pair(u32, u32),
 }
 
 /// What may be said of rows at a point of a program.
@@ -117,20 +129,6 @@ impl Span {
 }
 
 impl Stretch {
-    /// That of single indexes.
-    pub fn at(row: usize, point: Point) -> Stretch
-        ensures { said_stretch result ≡ at_indexes row (said_point point) }
-    {
-        Stretch {
-            row,
-            span: Span::at(point.index),
-            inner: match point.inner {
-                None => None,
-                Some(inner) => Some(Span::at(inner)),
-            },
-        }
-    }
-
     /// That of all first indexes of a row, which are of these values.
     pub fn all(row: usize, range: OrdinalRange) -> Stretch
         ensures { said_stretch result ≡ all_of row range }
@@ -147,21 +145,12 @@ impl Stretch {
         ensures { said_stretched result ≡ stretch_of self.row (all_with_bounds (bound_by how) (said_spans self)) }
     {
         let span = self.span.by(how)?;
-        match self.inner {
-            None => Some(Stretch {
-                row: self.row,
-                span,
-                inner: None,
-            }),
-            Some(inner) => {
-                let inner = inner.by(how)?;
-                Some(Stretch {
-                    row: self.row,
-                    span,
-                    inner: Some(inner),
-                })
-            }
-        }
+        let inner = match self.inner {
+            None => None,
+            Some(inner) => Some(inner.by(how)?),
+        };
+        let row = self.row;
+        Some(Stretch { row, span, inner })
     }
 
     fn compare(&self, other: &Stretch) -> Ordering
@@ -251,14 +240,28 @@ impl Order {
         )
     }
 
-    /// The bound that the first variable is at most.
-    pub fn last(&self) -> Bound
-        ensures { said_bound result ≡ plus self.now.other self.now.number }
+    /// What is held, if it is.
+    pub fn held(self) -> Held
+        ensures { said_held result ≡ said_order self }
     {
-        Bound {
-            root: Some(self.other),
-            number: self.number,
+        Held::Ordered(self)
+    }
+
+    /// The first variable, and the bound that it is at most.
+    pub fn span(&self) -> Span
+        ensures { said_span result ≡ order_span self.now.root self.now.other self.now.number }
+    {
+        Span {
+            first: Bound::plus(self.root, 0),
+            last: Bound::plus(self.other, self.number),
         }
+    }
+
+    // Whether its number is one that facts have.
+    fn is_proper(&self) -> bool
+        ensures { OnTrue result (ordered self.now.root self.now.other self.now.number ≡ Some (said_order self.now)) }
+    {
+        self.number > i32::MIN
     }
 
     // Whether it says that a bound is at most another.
@@ -294,6 +297,65 @@ impl Order {
 }
 
 impl Held {
+    /// That what has single indexes is defined.
+    pub fn at(row: usize, point: Point) -> Held
+        ensures { said_held result ≡ stretched row (points (said_point point)) }
+    {
+        let inner = match point.inner {
+            None => None,
+            Some(inner) => Some(Span::at(inner)),
+        };
+        Held::within(row, Span::at(point.index), inner)
+    }
+
+    /// That what lies in a span of a row, or in two, is defined.
+    pub fn within(row: usize, span: Span, inner: Option<Span>) -> Held
+        ensures { said_held result ≡ stretched row (said_span span ∷ inner_spans inner) }
+    {
+        Held::Stretched(Stretch { row, span, inner })
+    }
+
+    /// The stretch that it is of, if it is of rows.
+    pub fn stretch(&self) -> Option<Stretch>
+        ensures { said_stretch_form result ≡ stretch_in (said_held self.now) }
+    {
+        match self {
+            Held::Stretched(stretch) => Some(*stretch),
+            Held::Ordered(_) => None,
+        }
+    }
+
+    /// The span between the bounds that it has, and perhaps an inner one: it rests on the variables of these.
+    pub fn ends(&self) -> (Span, Option<Span>)
+        ensures { said_span result.0 ∷ inner_spans result.1 ≡ ends_of (said_held self.now) }
+    {
+        match self {
+            Held::Stretched(stretch) => (stretch.span, stretch.inner),
+            Held::Ordered(order) => (order.span(), None),
+        }
+    }
+
+    /// With what it stands together in the order of what is held.
+    pub fn group(&self) -> Group
+        ensures { result ≡ group_of (said_held self.now) }
+    {
+        match self {
+            Held::Stretched(stretch) => Group::Row(stretch.row),
+            Held::Ordered(order) => Group::Pair(order.root, order.other),
+        }
+    }
+
+    /// Whether a rebinding of a variable on which it doesn't rest leaves it as it is: an order whose number facts don't
+    /// have goes at any.
+    pub fn is_settled(&self) -> bool
+        ensures { OnTrue result (IsSettled (said_held self.now)) }
+    {
+        match self {
+            Held::Stretched(_) => true,
+            Held::Ordered(order) => order.is_proper(),
+        }
+    }
+
     /// Whether it is the same as another.
     pub fn is_same(&self, other: &Held) -> bool
         ensures { OnTrue result (said_held self.now ≡ said_held other.now) }
@@ -339,6 +401,42 @@ impl Held {
             (Held::Stretched(_), Held::Ordered(_)) => Ordering::Less,
             (Held::Ordered(_), Held::Stretched(_)) => Ordering::Greater,
             (Held::Ordered(one), Held::Ordered(another)) => one.compare(another),
+        }
+    }
+}
+
+impl Claim {
+    /// What lies in a span of a row, or in two, is defined.
+    pub fn in_spans(row: usize, span: Span, inner: Option<Span>) -> Claim
+        ensures { said_claim result ≡ in_spans row (said_span span ∷ inner_spans inner) }
+    {
+        Claim::Holds(Held::within(row, span, inner))
+    }
+
+    /// A variable is at most another plus a number.
+    pub fn at_most_by(root: u32, other: u32, number: i32) -> Claim
+        ensures { said_claim result ≡ at_most_by root other number }
+    {
+        Claim::Holds(Held::Ordered(Order {
+            root,
+            other,
+            number,
+        }))
+    }
+}
+
+impl Group {
+    /// How it stands to another: rows come before pairs.
+    pub fn compare(self, other: Group) -> Ordering
+        ensures { result ≡ group_order self other }
+    {
+        match (self, other) {
+            (Group::Row(row), Group::Row(another)) => row.cmp(&another),
+            (Group::Row(_), Group::Pair(_, _)) => Ordering::Less,
+            (Group::Pair(_, _), Group::Row(_)) => Ordering::Greater,
+            (Group::Pair(root, other), Group::Pair(one, another)) => {
+                root.cmp(&one).then(other.cmp(&another))
+            }
         }
     }
 }

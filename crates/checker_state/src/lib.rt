@@ -17,7 +17,7 @@ pub use bound::{Bound, Rebinding};
 pub use ends::{Ends, difference, sum};
 pub use forms::{bound_form, entire};
 pub use growing::{Growing, is_same_growth, joined_growth};
-pub use held::{Claim, Held, Order, Point, Span, Stretch};
+pub use held::{Claim, Group, Held, Order, Point, Span, Stretch};
 pub use reach::{Index, Indexes, Reach};
 pub use sets::{
     is_closed_member, is_closed_range, operated_sets, tested_member, with_member, with_members,

@@ -6,16 +6,15 @@ use Rattle.std.specs.List.{remove}
 use Rattle.std.proofs.lemmas.List.{drop_at, length-map, length_push, take_at}
 use Rattle.domain.specs.Interval.{Interval}
 use Rattle.checker_state.specs.declared.held.Held.{Held as KeptHeld}
-use Rattle.checker_state.specs.declared.held.Stretch.{Stretch as KeptStretch}
 use Rattle.checker_trail.specs.declared.state.State.{State as Kept}
 use Rattle.checker_state.specs.Bounds.{Bound}
 use Rattle.checker_state.specs.Changes.{with_some}
-use Rattle.checker_state.specs.State.{Dead, Held, Live, State, Stretch, Stretched, with_more}
-use Rattle.checker_state.specs.Stores.{Reach, all_stored, at_indexes, is_none, longer, or_alone, stored, with_element}
+use Rattle.checker_state.specs.State.{Dead, Held, Live, State, stretched, with_more}
+use Rattle.checker_state.specs.Stores.{Reach, all_stored, is_none, longer, or_alone, points, stored, with_element}
 use Rattle.checker_known.specs.Longer.{AreLonger, place_if, places_from, without}
 use Rattle.checker_trail.specs.Trail.{Moves, over_held, seen}
 use Rattle.checker_known.specs.Knowledge.{core, viewed}
-use Rattle.checker_state.specs.View.{said_held, said_stretch}
+use Rattle.checker_state.specs.View.{said_held}
 use Rattle.checker_known.proofs.HeldLists.{said_all}
 use Rattle.checker_trail.proofs.Ways.{moves-as, moves-then, seen-live}
 
@@ -72,15 +71,15 @@ more-over : (more : List Held) (places : List ℕ) (state : State)
 more-over more places Dead = refl
 more-over more places (Live facts) = refl
 
-pub alone-moves : {a b c : Kept} (row : ℕ) (one : List Bound) (places gone : List ℕ) (more : List KeptHeld) (stretch : KeptStretch)
+pub alone-moves : {a b c : Kept} (row : ℕ) (one : List Bound) (places gone : List ℕ) (more : List KeptHeld) (alone : KeptHeld)
     → a.known.is_dead ≡ false → AreLonger (viewed (core a.known)) row one places more (said_all a.known.held.items) → more ≡ [] → gone ≡ places
-    → said_stretch stretch ≡ at_indexes row one → Moves (over_held (without gone)) a b
-    → Moves (with_some (Some (Stretched (said_stretch stretch)))) b c → Moves (with_element row one) a c
-alone-moves {a = a} {b = b} {c = c} row one places gone more stretch live beside none gone_are stretch_is removed held =
+    → said_held alone ≡ stretched row (points one) → Moves (over_held (without gone)) a b
+    → Moves (with_some (Some (said_held alone))) b c → Moves (with_element row one) a c
+alone-moves {a = a} {b = b} {c = c} row one places gone more alone live beside none gone_are alone_is removed held =
     let first = subst (λ (some : List ℕ). Moves (over_held (without some)) a b) gone_are removed in
-    let rest = subst (λ (s : Stretch). Moves (with_some (Some (Stretched s))) b c) stretch_is held in
+    let rest = subst (λ (h : Held). Moves (with_some (Some h)) b c) alone_is held in
     moves-as (with_element row one) (moves-then first rest)
-    (one-over (Stretched (at_indexes row one)) places (seen a)
+    (one-over (stretched row (points one)) places (seen a)
     ∙ ap (λ (some : List KeptHeld). over_held (λ held. with_more (or_alone row one (said_all some)) (without places held)) (seen a)) (sym none)
     ∙ element-is row one a places more live beside)
 

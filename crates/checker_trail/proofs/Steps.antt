@@ -25,7 +25,8 @@ use Rattle.checker_state.specs.View.{held_by, said_held}
 use Rattle.checker_known.specs.View.{said_row}
 use Rattle.checker_known.proofs.HeldLists.{changed-end, changed-step, changed_each, changed_from, each-from, dropped-step, insert-said, kept-end}
 use Rattle.checker_known.proofs.HeldLists.{kept-step, kept_from, more-append}
-use Rattle.checker_known.proofs.HeldLists.{no_held, none-there, one-became, one-gone, remove-said, said-inside, said-there, said_all, taken-step}
+use Rattle.checker_known.proofs.HeldLists.{none-there, one-became, one-gone, remove-said, said-inside, said-there, said_all, taken-step}
+use Rattle.checker_state.proofs.HeldOrders.{no_held}
 use Rattle.checker_trail.proofs.Ways.{Returns, moves-as, moves-dead, moves-live, moves-made, moves-stay, moves-then, seen-live}
 
 -- ---- rows

@@ -78,7 +78,7 @@ impl<'a> State<'a> {
         ensures { Moves (with_some (said_ordered order)) self.old self.new }
     {
         if let Some(order) = order {
-            self.hold(Held::Ordered(order));
+            self.hold(order.held());
         }
     }
 

@@ -1,14 +1,14 @@
-ghost use Rattle.std.specs.Prelude.{◌≡◌, ◌∷◌};
-ghost use Rattle.checker_state.specs.State.{Holds, Stretched, table_of};
+ghost use Rattle.std.specs.Prelude.{◌≡◌};
+ghost use Rattle.checker_state.specs.State.{table_of};
 ghost use Rattle.checker_state.specs.Stores.{all_of_row, all_stored, form_span, gives_block, gives_both, gives_form};
 ghost use Rattle.checker_state.specs.Stores.{gives_index, gives_inner, gives_reached, gives_some, range_span, stored};
 ghost use Rattle.checker_state.specs.Stores.{with_both, with_element, with_joined};
-ghost use Rattle.checker_state.specs.View.{inner_spans, said_claim, said_form, said_index, said_point};
-ghost use Rattle.checker_state.specs.View.{said_reach, said_span, said_span_form};
+ghost use Rattle.checker_state.specs.View.{said_claim, said_form, said_index, said_point, said_reach};
+ghost use Rattle.checker_state.specs.View.{said_span_form};
 ghost use Rattle.checker_trail.specs.Trail.{Moves, seen};
 
 use crate::State;
-use checker_state::{Bound, Claim, Held, Index, Indexes, Point, Reach, Span, Stretch};
+use checker_state::{Bound, Claim, Held, Index, Indexes, Point, Reach, Span};
 use domain::{Domain, Interval};
 use types::OrdinalRange;
 
@@ -38,7 +38,7 @@ impl<'a> State<'a> {
     {
         match form {
             None => false,
-            Some(index) => self.gives(&stretched(row, Span::at(index), None)),
+            Some(index) => self.gives(&Claim::in_spans(row, Span::at(index), None)),
         }
     }
 
@@ -47,7 +47,7 @@ impl<'a> State<'a> {
     {
         match span {
             None => self.is_dead(),
-            Some(span) => self.gives(&stretched(row, span, None)),
+            Some(span) => self.gives(&Claim::in_spans(row, span, None)),
         }
     }
 
@@ -73,7 +73,7 @@ impl<'a> State<'a> {
             (said_span_form inner) }
     {
         match (span, inner) {
-            (Some(span), Some(inner)) => self.gives(&stretched(row, span, Some(inner))),
+            (Some(span), Some(inner)) => self.gives(&Claim::in_spans(row, span, Some(inner))),
             _ => false,
         }
     }
@@ -144,7 +144,7 @@ impl<'a> State<'a> {
         };
         self.remove_all(&beside.places);
         if beside.longer.is_empty() {
-            self.hold(Held::Stretched(Stretch::at(row, point)));
+            self.hold(Held::at(row, point));
         } else {
             self.hold_all(&beside.longer);
         }
@@ -157,16 +157,8 @@ pub fn all_of_row(range: Option<OrdinalRange>, row: usize) -> Claim
 {
     match range {
         None => Claim::Defined { row },
-        Some(range) => Claim::Holds(Held::Stretched(Stretch::all(row, range))),
+        Some(range) => Claim::in_spans(row, Span::all(range), None),
     }
-}
-
-// What lies in a span, or in two, is defined.
-fn stretched(row: usize, span: Span, inner: Option<Span>) -> Claim
-    ensures { said_claim result
-        ≡ Holds (Stretched (record { row = row; spans = said_span span ∷ inner_spans inner })) }
-{
-    Claim::Holds(Held::Stretched(Stretch { row, span, inner }))
 }
 
 // The span of a form.

@@ -37,7 +37,7 @@ pub pass_keeps : (place : Place) → Keeps (pass place)
 pass_keeps place = pass_walks place
 
 pub add_type_keeps : (place : Place) (form : Form) → Keeps (add_type place form)
-add_type_keeps place form = add_type_walks place form
+add_type_keeps place form = add_type_walks place form tt
 
 pub declare_keeps : (name : Name) (denotation : Denotation) → Keeps (declare name denotation)
 declare_keeps name denotation = declare_walks name denotation tt

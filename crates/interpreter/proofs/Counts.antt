@@ -15,7 +15,7 @@ use Rattle.meaning.specs.Meaning.{Surroundings}
 use Rattle.meaning.specs.Store.{kept}
 use Rattle.meaning.specs.Effect.{State, Reply, Gives, Stops, Action, ◌>>=◌, and_then, give, stop, require, use_turn, another, looping, looped, is_in}
 use Rattle.meaning.specs.Meaning.{Execution, effect_of, for_round, for_between, for_turn}
-use Rattle.operations.specs.Answers.{both_bounds, bounds_tested, value_before}
+use Rattle.interpreter_state.specs.Answers.{both_bounds, bounds_tested, value_before}
 use Rattle.interpreter.specs.Pending.{counting}
 use Rattle.meaning.proofs.Replies.{and_then-same}
 

@@ -7,7 +7,7 @@ use Rattle.meaning.specs.declared.outcome.Ending.TheVariants as ending
 use Rattle.meaning.specs.Meaning.{Surroundings}
 use Rattle.meaning.specs.Effect.{State, Action, stop}
 use Rattle.meaning.specs.Meaning.{Execution, arm_of, effect_of, is_among}
-use Rattle.operations.specs.Answers.{arm_at}
+use Rattle.interpreter_state.specs.Answers.{arm_at}
 use Rattle.interpreter.specs.Size.{row_size, size_of_statement}
 
 -- an arm, or an error at the site where there is none

@@ -24,7 +24,7 @@ use Rattle.meaning.specs.Effect.{State, Reply, Stops, Action, ◌>>=◌, and_the
 use Rattle.meaning.specs.Meaning.{Calls, calls_of, effect_of, is_so}
 use Rattle.typed_tree.specs.declared.tree.Tree.{Tree}
 use Rattle.meaning.proofs.Turns.{ExtendedCalls, extended_calls}
-use Rattle.operations.specs.Answers.{answered, checked, index_tested}
+use Rattle.interpreter_state.specs.Answers.{answered, checked, index_tested}
 use Rattle.meaning.specs.Meaning.{Argument, OfValue}
 use Rattle.interpreter.specs.Pending.{Resumption, Agrees, Continues, RunDoes, pending_of, resumed, rest_of, operands_of}
 use Rattle.interpreter.specs.Pending.{tested, with_top, chosen, keeping, or_end, top_of, below_top, indexed}

@@ -64,7 +64,7 @@ use Rattle.meaning.specs.Meaning.{compared, selected, whole_of, default_width, w
 use Rattle.meaning.specs.Meaning.{line_ended, is_so, turn_if, for_between, for_turn, arm_of}
 use Rattle.meaning.specs.Counting.{values_before}
 use Rattle.meaning.specs.Meaning.{value_of, values_of, link_of, effect_of, Passing, all_passed, call_of, passing_of}
-use Rattle.operations.specs.Answers.{bounds_tested, positive, value_before}
+use Rattle.interpreter_state.specs.Answers.{bounds_tested, positive, value_before}
 use Rattle.meaning.specs.Meaning.{Argument, OfValue, OfPlace, OfRow}
 use Rattle.interpreter.specs.Pending.{Resumption, pending_of, resumed, chosen, further, while_rounds, repeat_rounds, counting}
 use Rattle.interpreter.specs.Pending.{forgetting, turning_inside, turning_tested, whiling, repeating, counting_on, line_ending, linking}

@@ -7,10 +7,10 @@ ghost use Rattle.interpreter.specs.Pending.{top_place};
 ghost use Rattle.interpreter.specs.Size.{Adds, Lightens, size_of, size_of_selectors};
 
 use crate::interpreter::Run;
+use interpreter_state::ordinals::{tested_index, value_in};
+use interpreter_state::rows::row_of;
 use interpreter_state::{Operand, Place, Work, part, put};
 use meaning::{Ending, Value};
-use operations::ordinals::{tested_index, value_in};
-use operations::rows::row_of;
 use std::alloc::AllocError;
 use typed_tree::{Access, Expr, RangeTest, Selector, Whole};
 use types::{OrdinalRange, Step, TypeId};

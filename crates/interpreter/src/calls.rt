@@ -2,7 +2,7 @@ ghost use Rattle.std.specs.Prelude.{◌≡◌, ◌<◌, ◌+◌, OnOk, IfOk, map
 ghost use Rattle.meaning.specs.Effect.{State};
 ghost use Rattle.meaning.specs.Store.{Environment};
 ghost use Rattle.meaning.specs.Meaning.{assign, assign_all, result_of};
-ghost use Rattle.operations.specs.Answers.{answered};
+ghost use Rattle.interpreter_state.specs.Answers.{answered};
 ghost use Rattle.interpreter_state.specs.Views.{operand_seen};
 ghost use Rattle.interpreter.specs.Pending.{RunDoes, RunLeaves, Sees, StoreAgrees, StoresIn, beginning, calling};
 ghost use Rattle.interpreter.specs.Pending.{left_below};
@@ -10,9 +10,9 @@ ghost use Rattle.interpreter.specs.Pending.{operands_of, resumed, taken_from};
 ghost use Rattle.interpreter.specs.Size.{Adds, Lightens, Shrinks, size_of};
 
 use crate::interpreter::Run;
+use interpreter_state::ordinals::value_in;
 use interpreter_state::{Caller, Operand, Work, put};
 use meaning::{Ending, Ordinal, Value};
-use operations::ordinals::value_in;
 use std::alloc::AllocError;
 use std::mem;
 use typed_tree::{Block, Call, Passed, RangeTest};

@@ -3,11 +3,11 @@ ghost use Rattle.interpreter.specs.Pending.{RunDoes, constructing, gathering, re
 ghost use Rattle.interpreter.specs.Size.{Adds, Lightens, size_of_gather};
 
 use crate::interpreter::Run;
+use interpreter_state::ordinals::operated_number;
+use interpreter_state::rows::compared_number;
+use interpreter_state::sets::{operated_value, with_one, with_range};
 use interpreter_state::{Operand, Work, put};
 use meaning::{Ending, Ordinal, Value};
-use operations::ordinals::operated_number;
-use operations::rows::compared_number;
-use operations::sets::{operated_value, with_one, with_range};
 use std::alloc::AllocError;
 use typed_tree::{Designator, Dyadic, Expr, Link, Monadic, Relation, Whole};
 

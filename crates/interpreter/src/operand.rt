@@ -1,6 +1,6 @@
 ghost use Rattle.std.specs.Prelude.{◌≡◌, ◌∷◌, OnOk, option_map};
 ghost use Rattle.meaning.specs.Effect.{members_of, number_of};
-ghost use Rattle.operations.specs.Answers.{answered};
+ghost use Rattle.interpreter_state.specs.Answers.{answered};
 ghost use Rattle.interpreter_state.specs.Views.{operand_seen, place_seen};
 ghost use Rattle.interpreter.specs.Pending.{RunDoes, below_top, giving, giving_number, giving_set, operands_of};
 ghost use Rattle.interpreter.specs.Pending.{top_in_hand, top_of};
@@ -8,10 +8,10 @@ ghost use Rattle.interpreter.specs.Pending.{top_place, top_row};
 ghost use Rattle.interpreter.specs.Size.{Adds};
 
 use crate::interpreter::Run;
+use interpreter_state::ordinals::number_of;
+use interpreter_state::sets::members_of;
 use interpreter_state::{Operand, Place};
 use meaning::{Ending, Ordinal, Value};
-use operations::ordinals::number_of;
-use operations::sets::members_of;
 use std::alloc::AllocError;
 
 // The stack of operands. Each piece of work that takes one follows work that left it.

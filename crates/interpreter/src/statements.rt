@@ -7,14 +7,14 @@ ghost use Rattle.interpreter.specs.Size.{Adds, Lightens, size_of_assignment, siz
 ghost use Rattle.interpreter.specs.Size.{size_of_parameter, size_of_procedure, size_of_whole, size_of_width};
 
 use crate::interpreter::Run;
-use interpreter_state::{Caller, Rounds, Work, put};
-use meaning::{Ending, Ordinal, Value};
-use operations::arms::arm_at;
-use operations::ordinals::{
+use interpreter_state::arms::arm_at;
+use interpreter_state::ordinals::{
     positive_width, tested_bounds, truth_of, value_toward, width_by_default,
 };
-use operations::rows::length_of;
-use operations::text::{write_ordinal, write_row, write_row_in};
+use interpreter_state::rows::length_of;
+use interpreter_state::text::{write_ordinal, write_row, write_row_in};
+use interpreter_state::{Caller, Rounds, Work, put};
+use meaning::{Ending, Ordinal, Value};
 use std::alloc::AllocError;
 use std::mem;
 use typed_tree::{

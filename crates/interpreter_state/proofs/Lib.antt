@@ -1,2 +1,5 @@
+mod FoundArms
 mod Inputs
+pub mod Members
+mod RowOrder
 pub mod Sees

@@ -2,34 +2,26 @@
 -- what a file or a stream that fails has taken, nor which acts a program does.
 use Rattle.std.specs.Prelude.{◌≡◌, ⊤, ℕ, ◌+◌, Bool, List, ◌++◌, ◌∷◌, [], Option, Some, None}
 use Rattle.clap.specs.declared.error.kind.ErrorKind.{ErrorKind}
+use Rattle.run_ports.specs.Seen.{Feeds, Sunk}
 use Rattle.pcode_assembler.specs.declared.code.Code.{Code}
-use Rattle.run_ports.specs.Feeding.{Feeds}
 use Rattle.stack_machine.specs.declared.stop.Stop.{Stop}
 use Rattle.stack_machine.specs.Failures.{write_failures_of}
 use Rattle.stack_machine.specs.Ran.{Ran}
 
--- what is seen of a reader and a writer: of the writer the bytes that it holds and the lengths of the pieces that it
--- was offered, where these are known, and how many calls failed
+-- what is seen of a reader and of a writer
 pub record Streams : Type 0 where
   pub feeds : Feeds
-  pub known : Option (List ℕ)
-  pub offered : Option (List ℕ)
-  pub failures : ℕ
+  pub sunk : Sunk
 
-abbrev pub streams : Option (List ℕ) → Option (List ℕ) → ℕ → Option (List ℕ) → Option (List ℕ) → ℕ → Streams
-streams remaining asked failed known offered failures = record {
-  feeds = record { remaining = remaining; asked = asked; failures = failed };
-  known = known;
-  offered = offered;
-  failures = failures;
-}
+abbrev pub streams : Feeds → Sunk → Streams
+streams feeds sunk = record { feeds = feeds; sunk = sunk }
 
 -- A code was run, on so many cells and for at most so many instructions, over a reader and a writer. For whatever the
 -- reader would have given behind what it gave, the stop is that of the run, and the writer's known bytes grew by its
 -- output, or by a beginning of it where the writer failed.
 pub record IsRun (code : Code) (cells budget : ℕ) (stop : Stop) (before after : Streams) : Type 0 where
-  pub ran : Ran code cells budget stop before.feeds after.feeds before.known after.known before.offered after.offered
-  pub failed : after.failures ≡ before.failures + write_failures_of stop
+  pub ran : Ran code cells budget stop before.feeds after.feeds before.sunk after.sunk
+  pub failed : after.sunk.failures ≡ before.sunk.failures + write_failures_of stop
 
 pub data Act : Type 0 where
   -- what a command's words get for an answer was printed: its help, its version, or why they aren't taken

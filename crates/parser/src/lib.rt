@@ -15,4 +15,4 @@ mod types;
 mod unstructured;
 mod variables;
 
-pub use program::parse;
+pub use program::{parse, release};

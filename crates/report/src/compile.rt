@@ -1,4 +1,6 @@
-ghost use Rattle.std.specs.Prelude.{◌≡◌, ℕ, List, Option, None, false, length, map, IfOk, IfErr, MatchResult};
+ghost use Rattle.std.specs.Prelude.{◌≡◌, ℕ, List, Option, None, false, length, map, IfOk, IfErr, IfSome};
+ghost use Rattle.std.specs.Prelude.{MatchResult};
+ghost use Rattle.analyser.specs.Verdicts.{IsVerdict};
 ghost use Rattle.certificate.specs.declared.Certificate.{Certificate as CertificateRead};
 ghost use Rattle.cert_checker.specs.Promise.{CallsChangeWhatTheyList, StatesHold, Valid};
 ghost use Rattle.code_scheme.specs.Code.{program_code};
@@ -13,19 +15,18 @@ ghost use Rattle.typed_tree.specs.Ids.{AreByPlace};
 ghost use Rattle.typing.specs.Sound.{stands};
 ghost use Rattle.report.specs.Whole.{IsStripped};
 
-use analyser::guess;
+use analyser::{Found, guess};
 use cert_checker::{Verdict, check};
 use certificate::Certificate;
 use check_remover::remove::remove;
 use code_generator::generate::generate;
 use code_generator::laws::stripped_follows;
 use lexer::tokens;
-use parser::parse;
+use parser::{parse, release};
 use pcode_assembler::{Code, Site};
 use report_text::fault::Fault;
 use resolver::resolve;
 use std::alloc::{AllocError, Global};
-use syntax_release::release;
 use typed_tree::Tree;
 
 /// What compiling a source gives.
@@ -128,18 +129,31 @@ fn judged(
         → MatchResult result (λ judged. IsJudgement tree.now (given certificate.entry) judged.0 judged.1)
         (IsRefusal source (given certificate.entry)) }
 {
-    let certificate = serving(alloc, tree, certificate)?;
-    let verdict = check(alloc, tree, &certificate)?;
-    Ok((certificate, verdict))
+    let Found {
+        certificate,
+        verdict,
+    } = serving(alloc, tree, certificate)?;
+    match verdict {
+        Some(verdict) => Ok((certificate, verdict)),
+        None => {
+            let verdict = check(alloc, tree, &certificate)?;
+            Ok((certificate, verdict))
+        }
+    }
 }
 
-// The certificate that a text spells, or without one a certificate that is found for the tree.
-fn serving(alloc: Global, tree: &Tree, text: Option<&[u8]>) -> Result<Certificate, Fault>
+// The certificate that a text spells, or without one a certificate that is found for the tree, and its verdict where
+// the search for it has made that already.
+fn serving(alloc: Global, tree: &Tree, text: Option<&[u8]>) -> Result<Found, Fault>
     ensures { (source : List ℕ) → IsSoundTreeOf source tree.now
-        → MatchResult result (Serves (given text.entry) tree.now) (IsRefusal source (given text.entry)) }
+        → MatchResult result (λ found. Serves (given text.entry) tree.now found.certificate
+        × IfSome found.verdict (IsVerdict tree.now found.certificate)) (IsRefusal source (given text.entry)) }
 {
     match text {
-        Some(text) => Ok(certificate::read(alloc, text)?),
+        Some(text) => Ok(Found {
+            certificate: certificate::read(alloc, text)?,
+            verdict: None,
+        }),
         None => Ok(guess(alloc, tree)?),
     }
 }

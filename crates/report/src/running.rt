@@ -27,14 +27,12 @@ pub fn go<R: Feed, W: Sink>(
     budget: u64,
 ) -> Result<(Verdict, Stop), Fault>
     requires cells { (1 ≤ cells) × (cells ≤ 16777216) }
-    requires reader_counts { R.failures reader.old < 2 ^ 64 - 1 }
-    requires writer_counts { W.failures writer.old < 2 ^ 64 - 1 }
+    requires reader_counts { (R.fed reader.old).failures < 2 ^ 64 - 1 }
+    requires writer_counts { (W.got writer.old).failures < 2 ^ 64 - 1 }
     ensures runs { MatchResult result
         (λ done. IsRunOf source.now (given certificate.entry) cells budget done.0 done.1
-        (streams (R.remaining reader.old) (R.asked reader.old) (R.failures reader.old) (W.contents writer.old)
-        (W.offered writer.old) (W.failures writer.old))
-        (streams (R.remaining reader.new) (R.asked reader.new) (R.failures reader.new) (W.contents writer.new)
-        (W.offered writer.new) (W.failures writer.new)))
+        (streams (R.fed reader.old) (W.got writer.old))
+        (streams (R.fed reader.new) (W.got writer.new)))
         (λ fault. IsRefusal source.now (given certificate.entry) fault
         × (reader.new ≡ reader.old) × (writer.new ≡ writer.old)) }
 {

@@ -136,5 +136,5 @@ fn leaves(
     let claims = read(alloc, claims.as_bytes())?;
     let mut refusals = 0;
     let left = accepted(alloc, &compiled.tree, claims, &mut refusals)?;
-    Ok(refusals == count && write(alloc, &left)?.as_slice() == wanted.as_bytes())
+    Ok(refusals == count && write(alloc, &left.certificate)?.as_slice() == wanted.as_bytes())
 }

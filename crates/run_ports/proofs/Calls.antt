@@ -4,7 +4,8 @@ use Rattle.std.proofs.Common.{true}
 use Rattle.std.specs.Prelude.{◌||◌}
 use Rattle.std.proofs.KnownBytes.{Appends-nil, Appends-trans, Consumes-nil, Consumes-trans}
 use Rattle.std.specs.Io.KnownBytes.{Appends, Consumes, IsAtEnd}
-use Rattle.run_ports.specs.Feeding.{Source, Tail, MayGo, Ended, Failed, MayGive, Feeds, Gave, IsDone, Each, behind, before_calls, failed_calls, is_ended}
+use Rattle.run_ports.specs.Seen.{Feeds}
+use Rattle.run_ports.specs.Feeding.{Source, Tail, MayGo, Ended, Failed, MayGive, Gave, IsDone, Each, behind, before_calls, failed_calls, is_ended}
 use Rattle.run_ports.specs.Feeding.{joined, last_call, whole}
 
 -- ---- pieces

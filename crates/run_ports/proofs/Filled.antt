@@ -8,9 +8,10 @@ use Rattle.std.proofs.KnownBytes.{Consumes-nil, Consumes-kept}
 use Rattle.std.specs.Prelude.{if◌then◌else◌, nat_eq, not, slice_set}
 use Rattle.std.specs.Io.KnownBytes.{Appends, Consumes, IsAtEnd, Keeps}
 use Rattle.text_input.specs.Input.{completed}
+use Rattle.run_ports.specs.Seen.{Feeds}
 use Rattle.run_ports.specs.declared.input.Input.{Input}
 use Rattle.run_ports.specs.declared.fault.ReadStop.TheVariants as read_stop
-use Rattle.run_ports.specs.Feeding.{Source, MayGo, Ended, Failed, Feeds, Gave, behind, coming, completed_rest, left, readable_rest, window}
+use Rattle.run_ports.specs.Feeding.{Source, MayGo, Ended, Failed, Gave, behind, coming, completed_rest, left, readable_rest, window}
 use Rattle.run_ports.specs.Steps.{Fills}
 
 -- ---- line ends

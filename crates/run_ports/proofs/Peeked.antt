@@ -9,11 +9,12 @@ use mir.Val.{bool_byte}
 use Rattle.text_input.specs.declared.InputFault.{InputFault}
 use Rattle.text_input.specs.declared.InputFault.TheVariants.{EndOfInput}
 use Rattle.text_input.specs.Input.{Reading, Reads as ReadsIt, Fails, Ends}
+use Rattle.run_ports.specs.Seen.{Feeds, Sunk}
 use Rattle.run_ports.specs.declared.fault.ReadStop.{ReadStop}
 use Rattle.run_ports.specs.declared.fault.ReadStop.TheVariants as read_stop
 use Rattle.run_ports.specs.declared.input.Input.{Input}
 use Rattle.run_ports.specs.declared.ports.RunPorts.{RunPorts}
-use Rattle.run_ports.specs.Feeding.{Source, Tail, MayGo, Ended, Failed, MayGive, Feeds, Each, behind, before_calls, coming, failed_calls, failing, fails_of}
+use Rattle.run_ports.specs.Feeding.{Source, Tail, MayGo, Ended, Failed, MayGive, Each, behind, before_calls, coming, failed_calls, failing, fails_of}
 use Rattle.run_ports.specs.Feeding.{is_ended, joined, last_call, left, window}
 use Rattle.run_ports.specs.declared.output.Output.{Output}
 use Rattle.run_ports.specs.Output.{held_by, ports}
@@ -123,12 +124,13 @@ held_long output h =
     length-take-le output.held output.bytes.items (omega (arith, items, h))
 
 -- where the writer took all
-pub Out-is : (known known' offered offered' : Option (List ℕ)) (old new : Output) → old.held < old.bytes.len → new.held ≡ 0 → Appends known known' (held_by old)
-    → Offers offered offered' (piece_of old.held) → Out (ports known offered old) (ports known' offered' new)
-Out-is known known' offered offered' old new few none grew offers = record {
+pub Out-is : (before after : Sunk) (old new : Output) → old.held < old.bytes.len → new.held ≡ 0
+    → Appends before.contents after.contents (held_by old) → Offers before.offered after.offered (piece_of old.held)
+    → Out (ports before old) (ports after new)
+Out-is before after old new few none grew offers = record {
   none = ap (λ n. take n new.bytes.items) none;
   grew = grew;
-  offers = subst (λ n. Offers offered offered' (piece_of n)) (sym (held_long old few)) offers;
+  offers = subst (λ n. Offers before.offered after.offered (piece_of n)) (sym (held_long old few)) offers;
 }
 
 -- the writer failed for some bytes

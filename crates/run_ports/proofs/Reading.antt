@@ -5,10 +5,11 @@ use Rattle.std.specs.Prelude.{ℤ, ◌||◌, if◌then◌else◌}
 use Rattle.std.specs.Io.KnownBytes.{Appends}
 use Rattle.text_input.specs.declared.InputFault.{InputFault}
 use Rattle.text_input.specs.Input.{Reading, Reads as ReadsIt, Fails, Ends}
+use Rattle.run_ports.specs.Seen.{Feeds}
 use Rattle.run_ports.specs.declared.fault.ReadStop.{ReadStop}
 use Rattle.run_ports.specs.declared.fault.ReadStop.TheVariants as read_stop
 use Rattle.run_ports.specs.declared.ports.RunPorts.{RunPorts}
-use Rattle.run_ports.specs.Feeding.{Source, Tail, MayGo, Ended, Failed, MayGive, Feeds, Each, behind, before_calls, failed_calls, failing, fails_of, is_ended}
+use Rattle.run_ports.specs.Feeding.{Source, Tail, MayGo, Ended, Failed, MayGive, Each, behind, before_calls, failed_calls, failing, fails_of, is_ended}
 use Rattle.run_ports.specs.Feeding.{joined, last_call, left}
 use Rattle.run_ports.specs.Ports.{Ports, Offers, piece_of}
 use Rattle.run_ports.specs.Reads.{Answers, GoesOutAs, Reads, lost_in, read_failures_in}

@@ -8,9 +8,9 @@ use Rattle.text_input.specs.declared.InputFault.{InputFault}
 use Rattle.text_input.specs.declared.InputFault.TheVariants.{NotACharacter, NotANumber}
 use Rattle.text_input.specs.Input.{Reading, Reads as ReadsIt, Fails, Ends, digits, is_blank, is_digit, number, read_character, read_integer, read_line}
 use Rattle.text_input.specs.Input.{read_eoln, signed_at, unsigned_at}
+use Rattle.run_ports.specs.Seen.{Feeds}
 use Rattle.run_ports.specs.declared.fault.ReadStop.{ReadStop}
 use Rattle.run_ports.specs.declared.ports.RunPorts.{RunPorts}
-use Rattle.run_ports.specs.Feeding.{Feeds}
 use Rattle.run_ports.specs.Ports.{Ports}
 use Rattle.run_ports.specs.Reads.{Answers, Reads, lost_in, read_failures_in}
 use Rattle.run_ports.specs.Steps.{InputTakes, byte_taken, looked_at, sign_taken}

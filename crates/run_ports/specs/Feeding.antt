@@ -5,6 +5,7 @@ use Rattle.std.specs.Prelude.{◌≡◌, ℕ, Bool, true, false, List, [], ◌�
 use Rattle.std.specs.Prelude.{Option, ◌+◌}
 use Rattle.std.specs.Io.KnownBytes.{Appends, Consumes, IsAtEnd}
 use Rattle.text_input.specs.Input.{completed}
+use Rattle.run_ports.specs.Seen.{Feeds}
 use Rattle.run_ports.specs.declared.input.Input.{Input}
 
 -- what a reader gives: its bytes, and whether it fails behind them
@@ -95,17 +96,6 @@ abbrev pub IsDone : Tail → Option (List ℕ) → Type 0
 IsDone MayGo remaining = Unit {0}
 IsDone Ended remaining = IsAtEnd remaining
 IsDone Failed remaining = Unit {0}
-
--- what is seen of a reader: the bytes that are left and how many it gave at each call, where these are known, and how
--- many calls failed
-pub record Feeds : Type 0 where
-  pub remaining : Option (List ℕ)
-  pub asked : Option (List ℕ)
-  pub failures : ℕ
-
--- a reader with these bytes left, which gave so many at each call, and failed so often
-abbrev pub feeds : Option (List ℕ) → Option (List ℕ) → ℕ → Feeds
-feeds remaining asked failures = record { remaining = remaining; asked = asked; failures = failures }
 
 -- a reader was called, and gave these pieces, one a call
 pub record Gave (before after : Feeds) (pieces : List (List ℕ)) (tail : Tail) : Type 0 where

@@ -1,6 +1,9 @@
+pub mod Counted
+pub mod Failures
 pub mod Feeding
 pub mod Output
 pub mod Ports
 pub mod Reads
+pub mod Seen
 pub mod Steps
 pub mod Wanted

@@ -7,10 +7,11 @@ use Rattle.std.specs.Prelude.{if◌then◌else◌}
 use Rattle.std.specs.Io.KnownBytes.{Appends}
 use Rattle.text_input.specs.declared.InputFault.TheVariants.{EndOfInput}
 use Rattle.text_input.specs.Input.{Reading, Reads as ReadsIt, Fails, Ends}
+use Rattle.run_ports.specs.Seen.{Feeds}
 use Rattle.run_ports.specs.declared.fault.ReadStop.{ReadStop}
 use Rattle.run_ports.specs.declared.fault.ReadStop.TheVariants as read_stop
 use Rattle.run_ports.specs.declared.ports.RunPorts.{RunPorts}
-use Rattle.run_ports.specs.Feeding.{Source, Tail, MayGive, Feeds, Gave, Each, behind, before_calls, failed_calls}
+use Rattle.run_ports.specs.Feeding.{Source, Tail, MayGive, Gave, Each, behind, before_calls, failed_calls}
 use Rattle.run_ports.specs.Feeding.{failing}
 use Rattle.run_ports.specs.Feeding.{fails_of, is_ended, joined, last_call, left}
 use Rattle.run_ports.specs.Ports.{Ports, Loses, Offers, piece_of}

@@ -3,9 +3,10 @@
 use Rattle.std.specs.Prelude.{◌≡◌, ℕ, ◌+◌, ◌-◌, ◌^◌, ◌<◌, Bool, true, false, List, [], ◌∷◌, ◌++◌, if◌then◌else◌, nat_eq}
 use Rattle.std.specs.Prelude.{Option, None, Some, Result}
 use Rattle.text_input.specs.Input.{Reading, Reads as ReadsIt, Ends, is_blank}
+use Rattle.run_ports.specs.Seen.{Feeds}
 use Rattle.run_ports.specs.declared.fault.ReadStop.{ReadStop}
 use Rattle.run_ports.specs.declared.input.Input.{Input}
-use Rattle.run_ports.specs.Feeding.{Source, Tail, MayGo, Failed, MayGive, Feeds, Gave, behind, failed_calls, is_ended}
+use Rattle.run_ports.specs.Feeding.{Source, Tail, MayGo, Failed, MayGive, Gave, behind, failed_calls, is_ended}
 use Rattle.run_ports.specs.Feeding.{joined}
 use Rattle.run_ports.specs.Feeding.{last_call, left, window}
 use Rattle.run_ports.specs.Reads.{read_failures_in}

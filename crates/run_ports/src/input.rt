@@ -1,12 +1,12 @@
-ghost use Rattle.std.specs.Prelude.{◌≡◌, ℕ, ◌+◌, ◌^◌, ◌-◌, ◌<◌, ◌≤◌, false, if◌then◌else◌, nat_eq, drop, take, List};
+ghost use Rattle.std.specs.Prelude.{◌≡◌, ℕ, ◌+◌, ◌^◌, ◌-◌, ◌<◌, ◌≤◌, false, if◌then◌else◌, nat_eq, drop, take};
 ghost use Rattle.std.specs.Prelude.{vec_len};
-ghost use Rattle.std.specs.Prelude.{IsOkUnless, MatchOption, [], slice_index, ◌∷◌};
+ghost use Rattle.std.specs.Prelude.{IsOkUnless, MatchOption, ◌∷◌};
 ghost use Rattle.run_ports.specs.declared.fault.ReadStop.TheVariants.{ReadFailed};
 ghost use Rattle.run_ports.specs.declared.output.TheConstants.{PIECE};
 
+use crate::bytes::Feed;
 use crate::fault::ReadStop;
 use crate::output::PIECE;
-use byte_ports::bytes::Feed;
 use std::alloc::{AllocError, Global};
 
 /// The piece of the input that a run holds.
@@ -27,7 +27,7 @@ pub struct Input {
 }
 
 impl Input {
-    ghost use Rattle.run_ports.specs.Feeding.{Source, feeds, left, readable, window};
+    ghost use Rattle.run_ports.specs.Feeding.{Source, left, readable, window};
     ghost use Rattle.run_ports.specs.Reads.{read_failures_in};
     ghost use Rattle.run_ports.specs.Steps.{Fills, InputTakes, may_take};
 
@@ -84,14 +84,14 @@ impl Input {
 
     /// Asks the reader for the next piece. A line that has begun is ended at its end, but not behind a failure.
     pub fn fill<R: Feed>(&mut self, reader: &mut R) -> Result<(), ReadStop>
-        requires counts { R.failures reader.old < 2 ^ 64 - 1 }
+        requires counts { (R.fed reader.old).failures < 2 ^ 64 - 1 }
         requires spent { self.old.next ≡ self.old.held }
         requires not_at_end { self.old.is_at_end ≡ false }
         ensures fills { Fills result self.old self.new
-            (feeds (R.remaining reader.old) (R.asked reader.old) (R.failures reader.old))
-            (feeds (R.remaining reader.new) (R.asked reader.new) (R.failures reader.new)) }
+            (R.fed reader.old)
+            (R.fed reader.new) }
         ensures only { IsOkUnless result ReadFailed }
-        ensures failures { R.failures reader.new ≡ R.failures reader.old + read_failures_in result }
+        ensures failures { (R.fed reader.new).failures ≡ (R.fed reader.old).failures + read_failures_in result }
         ensures may_take { may_take self.new (R.given reader.new) ≤ may_take self.old (R.given reader.old) }
     {
         self.next = 0;

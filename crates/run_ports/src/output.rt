@@ -3,8 +3,8 @@ ghost use Rattle.std.specs.Prelude.{vec_len};
 ghost use Rattle.run_ports.specs.declared.output.TheConstants.{PIECE};
 ghost use Rattle.run_ports.specs.Ports.{AppendsOrLoses, Offers, PassesOrLoses, piece_of, write_failures_in};
 
+use crate::bytes::Sink;
 use crate::fault::WriteFailed;
-use byte_ports::bytes::Sink;
 use std::alloc::{AllocError, Global};
 
 /// How many bytes a piece holds.
@@ -41,10 +41,10 @@ impl Output {
 
     /// Takes a byte; a piece that is full by it goes out.
     pub fn put<W: Sink>(&mut self, byte: u8, writer: &mut W) -> Result<(), WriteFailed>
-        requires { W.failures writer.old < 2 ^ 64 - 1 }
-        ensures failures { W.failures writer.new ≡ W.failures writer.old + write_failures_in result }
-        ensures bytes { PassesOrLoses result (ports (W.contents writer.old) (W.offered writer.old) self.old)
-            (ports (W.contents writer.new) (W.offered writer.new) self.new) (byte ∷ []) }
+        requires { (W.got writer.old).failures < 2 ^ 64 - 1 }
+        ensures failures { (W.got writer.new).failures ≡ (W.got writer.old).failures + write_failures_in result }
+        ensures bytes { PassesOrLoses result (ports (W.got writer.old) self.old)
+            (ports (W.got writer.new) self.new) (byte ∷ []) }
     {
         let held = self.held;
         self.bytes[held] = byte;
@@ -58,10 +58,10 @@ impl Output {
 
     /// Takes these bytes in turn.
     pub fn put_all<W: Sink>(&mut self, bytes: &[u8], writer: &mut W) -> Result<(), WriteFailed>
-        requires { W.failures writer.old < 2 ^ 64 - 1 }
-        ensures failures { W.failures writer.new ≡ W.failures writer.old + write_failures_in result }
-        ensures bytes { PassesOrLoses result (ports (W.contents writer.old) (W.offered writer.old) self.old)
-            (ports (W.contents writer.new) (W.offered writer.new) self.new) bytes.now }
+        requires { (W.got writer.old).failures < 2 ^ 64 - 1 }
+        ensures failures { (W.got writer.new).failures ≡ (W.got writer.old).failures + write_failures_in result }
+        ensures bytes { PassesOrLoses result (ports (W.got writer.old) self.old)
+            (ports (W.got writer.new) self.new) bytes.now }
     {
         for byte in bytes {
             self.put(*byte, writer)?;
@@ -71,10 +71,10 @@ impl Output {
 
     /// Takes so many blanks.
     pub fn put_blanks<W: Sink>(&mut self, count: usize, writer: &mut W) -> Result<(), WriteFailed>
-        requires { W.failures writer.old < 2 ^ 64 - 1 }
-        ensures failures { W.failures writer.new ≡ W.failures writer.old + write_failures_in result }
-        ensures bytes { PassesOrLoses result (ports (W.contents writer.old) (W.offered writer.old) self.old)
-            (ports (W.contents writer.new) (W.offered writer.new) self.new) (replicate count 32) }
+        requires { (W.got writer.old).failures < 2 ^ 64 - 1 }
+        ensures failures { (W.got writer.new).failures ≡ (W.got writer.old).failures + write_failures_in result }
+        ensures bytes { PassesOrLoses result (ports (W.got writer.old) self.old)
+            (ports (W.got writer.new) self.new) (replicate count 32) }
     {
         for _blank in 0..count {
             self.put(b' ', writer)?;
@@ -84,11 +84,12 @@ impl Output {
 
     /// What it holds goes out, if it holds anything.
     pub fn write_out<W: Sink>(&mut self, writer: &mut W) -> Result<(), WriteFailed>
-        requires { W.failures writer.old < 2 ^ 64 - 1 }
-        ensures failures { W.failures writer.new ≡ W.failures writer.old + write_failures_in result }
-        ensures bytes { AppendsOrLoses result (W.contents writer.old) (W.contents writer.new) (held_by self.old) }
+        requires { (W.got writer.old).failures < 2 ^ 64 - 1 }
+        ensures failures { (W.got writer.new).failures ≡ (W.got writer.old).failures + write_failures_in result }
+        ensures bytes { AppendsOrLoses result (W.got writer.old).contents (W.got writer.new).contents
+            (held_by self.old) }
         ensures pieces { IfOk result
-            (λ _. Offers (W.offered writer.old) (W.offered writer.new) (piece_of self.old.held)) }
+            (λ _. Offers (W.got writer.old).offered (W.got writer.new).offered (piece_of self.old.held)) }
         ensures nothing_held { self.new.held ≡ 0 }
         ensures nothing_lost { self.old.held ≡ 0 → IsOk result }
     {
@@ -100,11 +101,11 @@ impl Output {
 
 /// Writes the piece, in the parts that the writer takes.
 fn write_all<W: Sink>(piece: &[u8], writer: &mut W) -> Result<(), WriteFailed>
-    requires { W.failures writer.old < 2 ^ 64 - 1 }
-    ensures failures { W.failures writer.new ≡ W.failures writer.old + write_failures_in result }
-    ensures bytes { AppendsOrLoses result (W.contents writer.old) (W.contents writer.new) piece.now }
+    requires { (W.got writer.old).failures < 2 ^ 64 - 1 }
+    ensures failures { (W.got writer.new).failures ≡ (W.got writer.old).failures + write_failures_in result }
+    ensures bytes { AppendsOrLoses result (W.got writer.old).contents (W.got writer.new).contents piece.now }
     ensures pieces { IfOk result
-        (λ _. Offers (W.offered writer.old) (W.offered writer.new) (piece_of (length piece.now))) }
+        (λ _. Offers (W.got writer.old).offered (W.got writer.new).offered (piece_of (length piece.now))) }
     ensures nothing_lost { length piece.now ≡ 0 → IsOk result }
 {
     let mut rest = piece;

@@ -1,18 +1,18 @@
 ghost use Rattle.std.specs.Prelude.{◌≡◌, ℕ, ◌+◌, ◌^◌, ◌-◌, ◌<◌, ◌≤◌, List, [], ◌∷◌, Bool, false, replicate, min, IfOk};
 ghost use Rattle.std.specs.Prelude.{IfSome, pos};
 ghost use Rattle.text_input.specs.Input.{character, digits, number, read_integer, read_line};
-ghost use Rattle.run_ports.specs.Feeding.{Source, feeds, left, readable};
+ghost use Rattle.run_ports.specs.Feeding.{Source, left, readable};
 ghost use Rattle.run_ports.specs.Output.{held_by, ports};
 ghost use Rattle.run_ports.specs.Ports.{AppendsOrLoses, Offers, PassesOrLoses, piece_of, write_failures_in};
 ghost use Rattle.run_ports.specs.Reads.{Answers, Reads, lost_in, read_failures_in};
 ghost use Rattle.run_ports.specs.Steps.{byte_taken, looked_at, may_take, peeked, sign_taken};
 ghost use Rattle.run_ports.specs.Wanted.{read_wanted, read_with};
 
+use crate::bytes::{Feed, Sink};
 use crate::fault::{ReadStop, WriteFailed};
 use crate::input::Input;
 use crate::output::Output;
 use crate::wanted::Wanted;
-use byte_ports::bytes::{Feed, Sink};
 use std::alloc::{AllocError, Global};
 use text_input::InputFault;
 
@@ -47,10 +47,10 @@ impl RunPorts {
 
     /// Takes a byte of the output; a piece that is full by it goes out.
     pub fn put<W: Sink>(&mut self, byte: u8, writer: &mut W) -> Result<(), WriteFailed>
-        requires { W.failures writer.old < 2 ^ 64 - 1 }
-        ensures failures { W.failures writer.new ≡ W.failures writer.old + write_failures_in result }
-        ensures bytes { PassesOrLoses result (ports (W.contents writer.old) (W.offered writer.old) self.old.output)
-            (ports (W.contents writer.new) (W.offered writer.new) self.new.output) (byte ∷ []) }
+        requires { (W.got writer.old).failures < 2 ^ 64 - 1 }
+        ensures failures { (W.got writer.new).failures ≡ (W.got writer.old).failures + write_failures_in result }
+        ensures bytes { PassesOrLoses result (ports (W.got writer.old) self.old.output)
+            (ports (W.got writer.new) self.new.output) (byte ∷ []) }
         ensures input { self.new.input ≡ self.old.input }
     {
         self.output.put(byte, writer)
@@ -58,10 +58,10 @@ impl RunPorts {
 
     /// Takes these bytes of the output in turn.
     pub fn put_all<W: Sink>(&mut self, bytes: &[u8], writer: &mut W) -> Result<(), WriteFailed>
-        requires { W.failures writer.old < 2 ^ 64 - 1 }
-        ensures failures { W.failures writer.new ≡ W.failures writer.old + write_failures_in result }
-        ensures bytes { PassesOrLoses result (ports (W.contents writer.old) (W.offered writer.old) self.old.output)
-            (ports (W.contents writer.new) (W.offered writer.new) self.new.output) bytes.now }
+        requires { (W.got writer.old).failures < 2 ^ 64 - 1 }
+        ensures failures { (W.got writer.new).failures ≡ (W.got writer.old).failures + write_failures_in result }
+        ensures bytes { PassesOrLoses result (ports (W.got writer.old) self.old.output)
+            (ports (W.got writer.new) self.new.output) bytes.now }
         ensures input { self.new.input ≡ self.old.input }
     {
         self.output.put_all(bytes, writer)
@@ -69,10 +69,10 @@ impl RunPorts {
 
     /// Takes so many blanks.
     pub fn put_blanks<W: Sink>(&mut self, count: usize, writer: &mut W) -> Result<(), WriteFailed>
-        requires { W.failures writer.old < 2 ^ 64 - 1 }
-        ensures failures { W.failures writer.new ≡ W.failures writer.old + write_failures_in result }
-        ensures bytes { PassesOrLoses result (ports (W.contents writer.old) (W.offered writer.old) self.old.output)
-            (ports (W.contents writer.new) (W.offered writer.new) self.new.output) (replicate count 32) }
+        requires { (W.got writer.old).failures < 2 ^ 64 - 1 }
+        ensures failures { (W.got writer.new).failures ≡ (W.got writer.old).failures + write_failures_in result }
+        ensures bytes { PassesOrLoses result (ports (W.got writer.old) self.old.output)
+            (ports (W.got writer.new) self.new.output) (replicate count 32) }
         ensures input { self.new.input ≡ self.old.input }
     {
         self.output.put_blanks(count, writer)
@@ -80,12 +80,12 @@ impl RunPorts {
 
     /// What it holds of the output goes out, if it holds anything.
     pub fn write_out<W: Sink>(&mut self, writer: &mut W) -> Result<(), WriteFailed>
-        requires { W.failures writer.old < 2 ^ 64 - 1 }
-        ensures failures { W.failures writer.new ≡ W.failures writer.old + write_failures_in result }
-        ensures bytes { AppendsOrLoses result (W.contents writer.old) (W.contents writer.new)
+        requires { (W.got writer.old).failures < 2 ^ 64 - 1 }
+        ensures failures { (W.got writer.new).failures ≡ (W.got writer.old).failures + write_failures_in result }
+        ensures bytes { AppendsOrLoses result (W.got writer.old).contents (W.got writer.new).contents
             (held_by self.old.output) }
         ensures pieces { IfOk result
-            (λ _. Offers (W.offered writer.old) (W.offered writer.new) (piece_of self.old.output.held)) }
+            (λ _. Offers (W.got writer.old).offered (W.got writer.new).offered (piece_of self.old.output.held)) }
         ensures nothing_held { self.new.output.held ≡ 0 }
         ensures input { self.new.input ≡ self.old.input }
     {
@@ -99,15 +99,15 @@ impl RunPorts {
         reader: &mut R,
         writer: &mut W,
     ) -> Result<i32, ReadStop>
-        requires reader_counts { R.failures reader.old < 2 ^ 64 - 1 }
-        requires writer_counts { W.failures writer.old < 2 ^ 64 - 1 }
+        requires reader_counts { (R.fed reader.old).failures < 2 ^ 64 - 1 }
+        requires writer_counts { (W.got writer.old).failures < 2 ^ 64 - 1 }
         ensures reads { Reads (read_wanted wanted) result self.old self.new
-            (feeds (R.remaining reader.old) (R.asked reader.old) (R.failures reader.old))
-            (feeds (R.remaining reader.new) (R.asked reader.new) (R.failures reader.new))
-            (ports (W.contents writer.old) (W.offered writer.old) self.old.output)
-            (ports (W.contents writer.new) (W.offered writer.new) self.new.output) }
-        ensures read_failures { R.failures reader.new ≡ R.failures reader.old + read_failures_in result }
-        ensures write_failures { W.failures writer.new ≡ W.failures writer.old + lost_in result }
+            (R.fed reader.old)
+            (R.fed reader.new)
+            (ports (W.got writer.old) self.old.output)
+            (ports (W.got writer.new) self.new.output) }
+        ensures read_failures { (R.fed reader.new).failures ≡ (R.fed reader.old).failures + read_failures_in result }
+        ensures write_failures { (W.got writer.new).failures ≡ (W.got writer.old).failures + lost_in result }
     {
         match wanted {
             Wanted::Integer => self.read_integer(reader, writer),
@@ -127,15 +127,15 @@ impl RunPorts {
         reader: &mut R,
         writer: &mut W,
     ) -> Result<i32, ReadStop>
-        requires reader_counts { R.failures reader.old < 2 ^ 64 - 1 }
-        requires writer_counts { W.failures writer.old < 2 ^ 64 - 1 }
+        requires reader_counts { (R.fed reader.old).failures < 2 ^ 64 - 1 }
+        requires writer_counts { (W.got writer.old).failures < 2 ^ 64 - 1 }
         ensures reads { Reads (λ fails. read_integer) result self.old self.new
-            (feeds (R.remaining reader.old) (R.asked reader.old) (R.failures reader.old))
-            (feeds (R.remaining reader.new) (R.asked reader.new) (R.failures reader.new))
-            (ports (W.contents writer.old) (W.offered writer.old) self.old.output)
-            (ports (W.contents writer.new) (W.offered writer.new) self.new.output) }
-        ensures read_failures { R.failures reader.new ≡ R.failures reader.old + read_failures_in result }
-        ensures write_failures { W.failures writer.new ≡ W.failures writer.old + lost_in result }
+            (R.fed reader.old)
+            (R.fed reader.new)
+            (ports (W.got writer.old) self.old.output)
+            (ports (W.got writer.new) self.new.output) }
+        ensures read_failures { (R.fed reader.new).failures ≡ (R.fed reader.old).failures + read_failures_in result }
+        ensures write_failures { (W.got writer.new).failures ≡ (W.got writer.old).failures + lost_in result }
     {
         let is_negative = self.pass_sign(reader, writer)?;
         if !self.look(reader, writer)?.is_ascii_digit() {
@@ -150,15 +150,15 @@ impl RunPorts {
         reader: &mut R,
         writer: &mut W,
     ) -> Result<(), ReadStop>
-        requires reader_counts { R.failures reader.old < 2 ^ 64 - 1 }
-        requires writer_counts { W.failures writer.old < 2 ^ 64 - 1 }
+        requires reader_counts { (R.fed reader.old).failures < 2 ^ 64 - 1 }
+        requires writer_counts { (W.got writer.old).failures < 2 ^ 64 - 1 }
         ensures reads { Reads (λ fails. read_line) result self.old self.new
-            (feeds (R.remaining reader.old) (R.asked reader.old) (R.failures reader.old))
-            (feeds (R.remaining reader.new) (R.asked reader.new) (R.failures reader.new))
-            (ports (W.contents writer.old) (W.offered writer.old) self.old.output)
-            (ports (W.contents writer.new) (W.offered writer.new) self.new.output) }
-        ensures read_failures { R.failures reader.new ≡ R.failures reader.old + read_failures_in result }
-        ensures write_failures { W.failures writer.new ≡ W.failures writer.old + lost_in result }
+            (R.fed reader.old)
+            (R.fed reader.new)
+            (ports (W.got writer.old) self.old.output)
+            (ports (W.got writer.new) self.new.output) }
+        ensures read_failures { (R.fed reader.new).failures ≡ (R.fed reader.old).failures + read_failures_in result }
+        ensures write_failures { (W.got writer.new).failures ≡ (W.got writer.old).failures + lost_in result }
     {
         loop {
             if self.next_byte(reader, writer)? == b'\n' {
@@ -173,15 +173,15 @@ impl RunPorts {
         reader: &mut R,
         writer: &mut W,
     ) -> Result<bool, ReadStop>
-        requires reader_counts { R.failures reader.old < 2 ^ 64 - 1 }
-        requires writer_counts { W.failures writer.old < 2 ^ 64 - 1 }
+        requires reader_counts { (R.fed reader.old).failures < 2 ^ 64 - 1 }
+        requires writer_counts { (W.got writer.old).failures < 2 ^ 64 - 1 }
         ensures reads { Reads (λ fails. sign_taken) result self.old self.new
-            (feeds (R.remaining reader.old) (R.asked reader.old) (R.failures reader.old))
-            (feeds (R.remaining reader.new) (R.asked reader.new) (R.failures reader.new))
-            (ports (W.contents writer.old) (W.offered writer.old) self.old.output)
-            (ports (W.contents writer.new) (W.offered writer.new) self.new.output) }
-        ensures read_failures { R.failures reader.new ≡ R.failures reader.old + read_failures_in result }
-        ensures write_failures { W.failures writer.new ≡ W.failures writer.old + lost_in result }
+            (R.fed reader.old)
+            (R.fed reader.new)
+            (ports (W.got writer.old) self.old.output)
+            (ports (W.got writer.new) self.new.output) }
+        ensures read_failures { (R.fed reader.new).failures ≡ (R.fed reader.old).failures + read_failures_in result }
+        ensures write_failures { (W.got writer.new).failures ≡ (W.got writer.old).failures + lost_in result }
     {
         loop {
             match self.look(reader, writer)? {
@@ -206,15 +206,15 @@ impl RunPorts {
         reader: &mut R,
         writer: &mut W,
     ) -> Result<i32, ReadStop>
-        requires reader_counts { R.failures reader.old < 2 ^ 64 - 1 }
-        requires writer_counts { W.failures writer.old < 2 ^ 64 - 1 }
+        requires reader_counts { (R.fed reader.old).failures < 2 ^ 64 - 1 }
+        requires writer_counts { (W.got writer.old).failures < 2 ^ 64 - 1 }
         ensures reads { Reads (λ fails. digits is_negative 0) result self.old self.new
-            (feeds (R.remaining reader.old) (R.asked reader.old) (R.failures reader.old))
-            (feeds (R.remaining reader.new) (R.asked reader.new) (R.failures reader.new))
-            (ports (W.contents writer.old) (W.offered writer.old) self.old.output)
-            (ports (W.contents writer.new) (W.offered writer.new) self.new.output) }
-        ensures read_failures { R.failures reader.new ≡ R.failures reader.old + read_failures_in result }
-        ensures write_failures { W.failures writer.new ≡ W.failures writer.old + lost_in result }
+            (R.fed reader.old)
+            (R.fed reader.new)
+            (ports (W.got writer.old) self.old.output)
+            (ports (W.got writer.new) self.new.output) }
+        ensures read_failures { (R.fed reader.new).failures ≡ (R.fed reader.old).failures + read_failures_in result }
+        ensures write_failures { (W.got writer.new).failures ≡ (W.got writer.old).failures + lost_in result }
     {
         let mut magnitude = 0;
         loop {
@@ -233,15 +233,15 @@ impl RunPorts {
         reader: &mut R,
         writer: &mut W,
     ) -> Result<u8, ReadStop>
-        requires reader_counts { R.failures reader.old < 2 ^ 64 - 1 }
-        requires writer_counts { W.failures writer.old < 2 ^ 64 - 1 }
+        requires reader_counts { (R.fed reader.old).failures < 2 ^ 64 - 1 }
+        requires writer_counts { (W.got writer.old).failures < 2 ^ 64 - 1 }
         ensures reads { Reads (λ fails. byte_taken) result self.old self.new
-            (feeds (R.remaining reader.old) (R.asked reader.old) (R.failures reader.old))
-            (feeds (R.remaining reader.new) (R.asked reader.new) (R.failures reader.new))
-            (ports (W.contents writer.old) (W.offered writer.old) self.old.output)
-            (ports (W.contents writer.new) (W.offered writer.new) self.new.output) }
-        ensures read_failures { R.failures reader.new ≡ R.failures reader.old + read_failures_in result }
-        ensures write_failures { W.failures writer.new ≡ W.failures writer.old + lost_in result }
+            (R.fed reader.old)
+            (R.fed reader.new)
+            (ports (W.got writer.old) self.old.output)
+            (ports (W.got writer.new) self.new.output) }
+        ensures read_failures { (R.fed reader.new).failures ≡ (R.fed reader.old).failures + read_failures_in result }
+        ensures write_failures { (W.got writer.new).failures ≡ (W.got writer.old).failures + lost_in result }
         ensures may_take { IfOk result
             (λ _. may_take self.new.input (R.given reader.new) < may_take self.old.input (R.given reader.old)) }
     {
@@ -252,15 +252,15 @@ impl RunPorts {
 
     /// The next byte, which is needed.
     fn look<R: Feed, W: Sink>(&mut self, reader: &mut R, writer: &mut W) -> Result<u8, ReadStop>
-        requires reader_counts { R.failures reader.old < 2 ^ 64 - 1 }
-        requires writer_counts { W.failures writer.old < 2 ^ 64 - 1 }
+        requires reader_counts { (R.fed reader.old).failures < 2 ^ 64 - 1 }
+        requires writer_counts { (W.got writer.old).failures < 2 ^ 64 - 1 }
         ensures reads { Reads (λ fails. looked_at) result self.old self.new
-            (feeds (R.remaining reader.old) (R.asked reader.old) (R.failures reader.old))
-            (feeds (R.remaining reader.new) (R.asked reader.new) (R.failures reader.new))
-            (ports (W.contents writer.old) (W.offered writer.old) self.old.output)
-            (ports (W.contents writer.new) (W.offered writer.new) self.new.output) }
-        ensures read_failures { R.failures reader.new ≡ R.failures reader.old + read_failures_in result }
-        ensures write_failures { W.failures writer.new ≡ W.failures writer.old + lost_in result }
+            (R.fed reader.old)
+            (R.fed reader.new)
+            (ports (W.got writer.old) self.old.output)
+            (ports (W.got writer.new) self.new.output) }
+        ensures read_failures { (R.fed reader.new).failures ≡ (R.fed reader.old).failures + read_failures_in result }
+        ensures write_failures { (W.got writer.new).failures ≡ (W.got writer.old).failures + lost_in result }
         ensures may_take { may_take self.new.input (R.given reader.new) ≤ may_take self.old.input (R.given reader.old) }
         ensures held { IfOk result (λ _. self.new.input.next < self.new.input.held) }
     {
@@ -276,15 +276,15 @@ impl RunPorts {
         reader: &mut R,
         writer: &mut W,
     ) -> Result<Option<u8>, ReadStop>
-        requires reader_counts { R.failures reader.old < 2 ^ 64 - 1 }
-        requires writer_counts { W.failures writer.old < 2 ^ 64 - 1 }
+        requires reader_counts { (R.fed reader.old).failures < 2 ^ 64 - 1 }
+        requires writer_counts { (W.got writer.old).failures < 2 ^ 64 - 1 }
         ensures reads { Reads peeked result self.old self.new
-            (feeds (R.remaining reader.old) (R.asked reader.old) (R.failures reader.old))
-            (feeds (R.remaining reader.new) (R.asked reader.new) (R.failures reader.new))
-            (ports (W.contents writer.old) (W.offered writer.old) self.old.output)
-            (ports (W.contents writer.new) (W.offered writer.new) self.new.output) }
-        ensures read_failures { R.failures reader.new ≡ R.failures reader.old + read_failures_in result }
-        ensures write_failures { W.failures writer.new ≡ W.failures writer.old + lost_in result }
+            (R.fed reader.old)
+            (R.fed reader.new)
+            (ports (W.got writer.old) self.old.output)
+            (ports (W.got writer.new) self.new.output) }
+        ensures read_failures { (R.fed reader.new).failures ≡ (R.fed reader.old).failures + read_failures_in result }
+        ensures write_failures { (W.got writer.new).failures ≡ (W.got writer.old).failures + lost_in result }
         ensures may_take { may_take self.new.input (R.given reader.new) ≤ may_take self.old.input (R.given reader.old) }
         ensures held { IfOk result (λ byte. IfSome byte (λ _. self.new.input.next < self.new.input.held)) }
     {

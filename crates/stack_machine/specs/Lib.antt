@@ -16,4 +16,4 @@ pub mod Sets
 pub mod Stands
 pub mod Texts
 pub mod View
-pub use Rattle.byte_ports.specs.Counted
+pub use Rattle.run_ports.specs.Counted

@@ -12,10 +12,10 @@ pub mod stop;
 mod store;
 mod writing;
 
-pub use byte_ports::bytes;
 pub use cell::Cell;
 pub(crate) use cells::{Cells, number_of};
 pub(crate) use form::Form;
 pub use machine::Machine;
+pub use run_ports::bytes;
 pub use stop::{MachineFault, Stop};
 pub(crate) use store::Store;

@@ -5,9 +5,9 @@ ghost use Rattle.stack_machine.specs.Texts as texts;
 ghost use Rattle.stack_machine.specs.Texts.{characters};
 
 use crate::{Form, number_of};
-use byte_ports::bytes::Sink;
 use itoa::Buffer;
 use machine_arithmetic::arithmetic::is_true;
+use run_ports::bytes::Sink;
 use run_ports::fault::WriteFailed;
 use run_ports::ports::RunPorts;
 
@@ -19,10 +19,10 @@ pub fn put_value<W: Sink>(
     width: i32,
     writer: &mut W,
 ) -> Result<(), WriteFailed>
-    requires { W.failures writer.old < 2 ^ 64 - 1 }
-    ensures failures { W.failures writer.new ≡ W.failures writer.old + write_failures_in result }
-    ensures bytes { PassesOrLoses result (ports (W.contents writer.old) (W.offered writer.old) to.old.output)
-        (ports (W.contents writer.new) (W.offered writer.new) to.new.output) (texts.text_of form value width) }
+    requires { (W.got writer.old).failures < 2 ^ 64 - 1 }
+    ensures failures { (W.got writer.new).failures ≡ (W.got writer.old).failures + write_failures_in result }
+    ensures bytes { PassesOrLoses result (ports (W.got writer.old) to.old.output)
+        (ports (W.got writer.new) to.new.output) (texts.text_of form value width) }
     ensures input { to.new.input ≡ to.old.input }
 {
     match form {
@@ -50,10 +50,10 @@ pub fn put_string<W: Sink>(
     width: i32,
     writer: &mut W,
 ) -> Result<(), WriteFailed>
-    requires { W.failures writer.old < 2 ^ 64 - 1 }
-    ensures failures { W.failures writer.new ≡ W.failures writer.old + write_failures_in result }
-    ensures bytes { PassesOrLoses result (ports (W.contents writer.old) (W.offered writer.old) to.old.output)
-        (ports (W.contents writer.new) (W.offered writer.new) to.new.output)
+    requires { (W.got writer.old).failures < 2 ^ 64 - 1 }
+    ensures failures { (W.got writer.new).failures ≡ (W.got writer.old).failures + write_failures_in result }
+    ensures bytes { PassesOrLoses result (ports (W.got writer.old) to.old.output)
+        (ports (W.got writer.new) to.new.output)
         (texts.string_text (characters words.now) width) }
     ensures input { to.new.input ≡ to.old.input }
 {
@@ -72,10 +72,10 @@ fn put_after_blanks<W: Sink>(
     text: &[u8],
     writer: &mut W,
 ) -> Result<(), WriteFailed>
-    requires { W.failures writer.old < 2 ^ 64 - 1 }
-    ensures failures { W.failures writer.new ≡ W.failures writer.old + write_failures_in result }
-    ensures bytes { PassesOrLoses result (ports (W.contents writer.old) (W.offered writer.old) to.old.output)
-        (ports (W.contents writer.new) (W.offered writer.new) to.new.output) (replicate blanks 32 ++ text.now) }
+    requires { (W.got writer.old).failures < 2 ^ 64 - 1 }
+    ensures failures { (W.got writer.new).failures ≡ (W.got writer.old).failures + write_failures_in result }
+    ensures bytes { PassesOrLoses result (ports (W.got writer.old) to.old.output)
+        (ports (W.got writer.new) to.new.output) (replicate blanks 32 ++ text.now) }
     ensures input { to.new.input ≡ to.old.input }
 {
     to.put_blanks(blanks, writer)?;

@@ -45,7 +45,7 @@ use Rattle.typing.specs.Typing as Typing
 use Rattle.scopes.specs.declared.denotation.File.{File}
 use Rattle.typing.proofs.Ways.{Owner, Anyone, Owns, Defines, Way, Stay, One, Then, Token, Site, Ended, below, WayGoes, Walks, then_walks, pure_walks}
 use Rattle.typing.proofs.Ways.{given_walks}
-use Rattle.typing.proofs.Ways.{by_types_walks, walk}
+use Rattle.typing.proofs.Ways.{by_types_walks, defined_adds, test_walks, walk}
 use Rattle.typing.proofs.Ways.{each_walks, declare_walks, latest_walks, add_type_walks, pass_walks, enclosing_now_walks, with_enclosing_walks, heading_at_walks}
 use Rattle.typing.proofs.Ways.{open_beside_walks, close_block_walks, open_block_walks, add_heading_walks, open_required_walks}
 use Rattle.typing.proofs.WalkedForms.{constant_walks, ordinal_constant_walks, body_walks}
@@ -74,11 +74,19 @@ module _ (acts : Bool) (owner : Owner) (defines : Defines owner) (depth : ℕ) w
 
   enumeration_walks : (names : List Name) → Goes_by (Denoters.enumeration names)
   unfolding Denoters.enumeration
-  enumeration_walks names = search (walk, constants_from_walks)
+  enumeration_walks names =
+      then_walks latest_walks λ place.
+      then_walks (given_walks _) λ last.
+      then_walks (add_type_walks place _ (defined_adds owner defines _)) λ type_id.
+      then_walks (constants_from_walks type_id 0 names) λ _.
+      pure_walks type_id
 
   subrange_walks : (first : Constant) (place : Place) (last : Constant) → Goes_by (Denoters.subrange first place last)
   unfolding Denoters.subrange
-  subrange_walks first place last = search (walk, ordinal_constant_walks acts owner depth)
+  subrange_walks first place last =
+      then_walks (ordinal_constant_walks acts owner depth first) λ f.
+      then_walks (test_walks _ (ordinal_constant_walks acts owner depth last)) λ form.
+      add_type_walks place form (defined_adds owner defines form)
 
   abbrev pub DenoterWalks : WrittenDenoter → Type 0
   DenoterWalks w = Goes_by w
@@ -98,7 +106,8 @@ module _ (acts : Bool) (owner : Owner) (defines : Defines owner) (depth : ℕ) w
 
   arrays_walk : (packed : Bool) (place : Place) (ids : List TypeId) (element : TypeId) → Goes_by (Denoters.arrays packed place ids element)
   arrays_walk packed place [] element = search walk
-  arrays_walk packed place (id ∷ ids) element = then_walks (arrays_walk packed place ids element) (λ inner. add_type_walks place (Array packed id inner))
+  arrays_walk packed place (id ∷ ids) element =
+      then_walks (arrays_walk packed place ids element) (λ inner. add_type_walks place (Array packed id inner) (defined_adds owner defines _))
 
   array_walks : (packed : Bool) (place : Place) (indexes : List WrittenDenoter) (element : WrittenDenoter) → DenotersWalk indexes → DenoterWalks element
       → Goes_by (Denoters.array packed place indexes element)
@@ -119,7 +128,9 @@ module _ (acts : Bool) (owner : Owner) (defines : Defines owner) (depth : ℕ) w
       → Goes_by (Denoters.record_type packed place (fields_of rows ws))
   unfolding Denoters.record_type
   record_walks packed place rows ws laws =
-      then_walks (pass_walks place) (λ _. then_walks (groups_walk [] rows ws laws) (λ fields. add_type_walks place (Record packed fields)))
+      then_walks (pass_walks place) λ _.
+      then_walks (groups_walk [] rows ws laws) λ fields.
+      add_type_walks place (Record packed fields) (defined_adds owner defines _)
 
   set_walks : (packed : Bool) (place : Place) (base : WrittenDenoter) → DenoterWalks base → Goes_by (Denoters.set_type packed place base)
   unfolding Denoters.set_type
@@ -127,7 +138,7 @@ module _ (acts : Bool) (owner : Owner) (defines : Defines owner) (depth : ℕ) w
       then_walks (pass_walks place) λ _.
       then_walks (index_type_walks base law) λ id.
       then_walks (by_types_walks _) λ form.
-      add_type_walks place form
+      add_type_walks place form (defined_adds owner defines form)
 
   abbrev pub TypeDenoterWalks : TypeDenoter → Type 0
   TypeDenoterWalks d = Goes_by (denoted_type d)

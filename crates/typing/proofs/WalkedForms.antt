@@ -75,7 +75,7 @@ use Rattle.typing.specs.Statements.{WrittenVariable, statement, written_record}
 use Rattle.typing.proofs.Ways.{Assigned, WayGoes, find_walks, targets_at, with_result}
 use Rattle.typing.proofs.Ways.{Owner, Way, Walks, Tells, numbers_of, then_walks, test_walks, mark_walks, pure_walks, given_walks, enter_walks}
 use Rattle.typing.proofs.Ways.{tells_then, tells_on, then_tells, pure_tells, given_tells, wants_file_walks}
-use Rattle.typing.proofs.Ways.{test_tells, walk}
+use Rattle.typing.proofs.Ways.{test_tells, walk, add_type_walks, no_set_adds}
 use Rattle.typing.proofs.Ways.{pass_walks, enter_loop_walks, for_body_walks, next_slot_walks, open_record_walks, close_record_walks}
 use Rattle.typing_rules.specs.Typed.{typed}
 use Rattle.typing_rules.specs.Denotations.{as_routine}
@@ -85,7 +85,10 @@ module _ (acts : Bool) (owner : Owner) (depth : ℕ) where
 
   string_type_walks : (place : Place) (n : ℕ) → Walks (Way acts owner depth depth) (string_type place n)
   unfolding string_type
-  string_type_walks place n = search walk
+  string_type_walks place n =
+      then_walks (given_walks _) λ last.
+      then_walks (add_type_walks place _ (no_set_adds owner _ tt)) λ index.
+      add_type_walks place _ (no_set_adds owner _ tt)
 
   string_constant_walks : (place : Place) (cs : List ℕ) → Walks (Way acts owner depth depth) (string_constant place cs)
   unfolding string_constant

@@ -8,7 +8,7 @@ use Rattle.std.specs.List.{flat_map, list_all, list_any}
 use Rattle.std.proofs.lemmas.Bool.Decides.{nat_tests}
 use Rattle.place.specs.declared.Place.{Place}
 use Rattle.syntax_tree.specs.declared.Name.{Name}
-use Rattle.types.specs.Forms.{Form}
+use Rattle.types.specs.Forms.{Form, Set}
 use Rattle.types.specs.declared.form.TypeId.{TypeId}
 use Rattle.types.specs.Types.{form_at}
 use Rattle.scopes.specs.Scopes.{Region, define, opened_with, outer}
@@ -50,6 +50,25 @@ abbrev pub Defines : Owner → Type 0
 Defines Nobody = ⊥
 Defines other = Unit {0}
 
+abbrev pub IsNoSet : Form → Type 0
+IsNoSet (Set packed host first last) = ⊥
+IsNoSet other = Unit {0}
+
+-- which forms of types are added on a way: where no names are defined, none of sets
+abbrev pub Adds : Owner → Form → Type 0
+Adds Nobody form = IsNoSet form
+Adds other form = Unit {0}
+
+pub defined_adds : (owner : Owner) → Defines owner → (form : Form) → Adds owner form
+defined_adds Nobody defines form = absurd defines
+defined_adds (Of number) defines form = tt
+defined_adds Anyone defines form = tt
+
+pub no_set_adds : (owner : Owner) (form : Form) → IsNoSet form → Adds owner form
+no_set_adds Nobody form no_set = no_set
+no_set_adds (Of number) form no_set = tt
+no_set_adds Anyone form no_set = tt
+
 -- the numbers that a mark has: of entries, of loops, and of blocks that end
 abbrev pub numbers_of : Mark → List ℕ × List ℕ × List ℕ
 numbers_of one = (mark_entries one, mark_loops one, mark_blocks one)
@@ -89,7 +108,8 @@ pub data Step : Bool → Owner → ℕ → ℕ → Look → Passed → Passed �
   Threat : {owner : Owner} {depth : ℕ} {s : Passed} (root : ℕ) → Step true owner depth depth [] s (record s { threatened = Steps.with_one s.threatened root })
   -- a type and the characters of a string, by their numbers
   Typed :
-      {acts : Bool} {owner : Owner} {depth : ℕ} {s : Passed} (form : Form) → Step acts owner depth depth [] s (record s { types = s.types ++ form ∷ [] })
+      {acts : Bool} {owner : Owner} {depth : ℕ} {s : Passed} (form : Form) → Adds owner form
+      → Step acts owner depth depth [] s (record s { types = s.types ++ form ∷ [] })
   Text :
       {acts : Bool} {owner : Owner} {depth : ℕ} {s : Passed} (characters : List ℕ)
       → Step acts owner depth depth [] s (record s { texts = s.texts ++ characters ∷ [] })
@@ -308,9 +328,9 @@ module _ {acts : Bool} {owner : Owner} {depth : ℕ} where
   unfolding Steps.may_control
   may_control_walks place root = record { walks = λ old. if_goes (Way acts owner depth depth) old _ _ _ Stay }
 
-  pub add_type_walks : (place : Place) (form : Form) → Walks (Way acts owner depth depth) (Steps.add_type place form)
+  pub add_type_walks : (place : Place) (form : Form) → Adds owner form → Walks (Way acts owner depth depth) (Steps.add_type place form)
   unfolding Steps.add_type
-  add_type_walks place form = record { walks = λ old. answered_goes (Way acts owner depth depth) old _ _ (λ id is. One (Typed form)) }
+  add_type_walks place form adds = record { walks = λ old. answered_goes (Way acts owner depth depth) old _ _ (λ id is. One (Typed form adds)) }
 
   pub host_type_walks : (id : TypeId) → Walks (Way acts owner depth depth) (Steps.host_type id)
   unfolding Steps.host_type

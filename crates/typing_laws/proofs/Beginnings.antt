@@ -43,7 +43,7 @@ use Rattle.typed_tree.specs.Records.{width_begins}
 use Rattle.typed_tree.specs.Records.{with_begins, written_begins}
 use Rattle.typing_laws.specs.Opened.{mark_opened, opened_behind, record_of}
 use Rattle.typing_laws.proofs.Opened.{opened_append}
-use Rattle.typing_laws.proofs.Sparing.{origin_root, some_same}
+use Rattle.typing_laws.proofs.Sparing.{Passing, layer, link_layer, origin_root, passed_layer, some_same}
 use Rattle.typing_laws.proofs.Went.{take_front}
 
 -- ---- forms one after another
@@ -175,18 +175,6 @@ bare_passed = map-Passed ToldExpr ToldPassed ToldLink Expr Passed Link (λ e. e.
 
 abbrev bare_link : Link-F ToldExpr ToldPassed ToldLink → Link-F Expr Passed Link
 bare_link = map-Link ToldExpr ToldPassed ToldLink Expr Passed Link (λ e. e.0) (λ p. p.0) (λ l. l.0)
-
-abbrev Passing : Type 0
-Passing = ℕ → ℕ → Look
-
-abbrev layer : Expr-F Expr Passed Link → Look
-layer y = expression_look (map-Expr Expr Passed Link Look Passing Look look_expr look_passed look_link y)
-
-abbrev passed_layer : Passed-F Expr Passed Link → Passing
-passed_layer y = passed_look (map-Passed Expr Passed Link Look Passing Look look_expr look_passed look_link y)
-
-abbrev link_layer : Link-F Expr Passed Link → Look
-link_layer y = link_look (map-Link Expr Passed Link Look Passing Look look_expr look_passed look_link y)
 
 abbrev so_layer : Expr-F Expr Passed Link → Begin
 so_layer y = expression_begins (map-Expr Expr Passed Link Begin Begin Begin begins passed_begin link_begin y)

@@ -497,7 +497,7 @@ module _ (here : Here) (under : List Region) (counted : ℕ) (heads : List Head)
         let x = type_added place form s a is in
         let lawful = lawful_more s.types form x.0 from.0.base.lawful from.1 from.2 x.1 in
         subst (Kept counted s IsTyped) x.2 (
-          One (Typed form),
+          One (Typed form tt),
           (ready_types (s.types ++ form ∷ []) (one_longer s.types form) lawful from.0, omega (arith, length-append s.types (form ∷ []))),
         );
   }

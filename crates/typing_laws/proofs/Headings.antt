@@ -377,25 +377,6 @@ module _ (here : Here) (under : List Region) (number : ℕ) (name : Name) (group
   abbrev pending : Head
   pending = record { around = here.around ++ here.block ∷ []; is_function = not (is_none of_result) }
 
-  -- the steps behind the types
-  abbrev behind_types : List TypeId → Option TypeId → Passing (Unit {0})
-  behind_types types id = do
-    round ← enclosing_now
-    with_enclosing (record round { cells = 0 })
-    root ← result number name.place id
-    open_block (all_folded (flat_map formal_names groups))
-    roots ← parameters number groups types
-    region ← close_block
-    own ← enclosing_now
-    with_enclosing round
-    add_heading (record {
-      around = round.around ++ round.block ∷ [];
-      parameters = roots;
-      result = root;
-      region = region;
-      cells = own.cells;
-    })
-
   -- the heading that is added, by what stands before it
   abbrev made : Enclosing → Option ℕ → List ℕ → Passed → Headed
   made round root roots s = record {
@@ -425,6 +406,14 @@ module _ (here : Here) (under : List Region) (number : ℕ) (name : Name) (group
       region = region;
       cells = own.cells;
     })
+
+  -- the steps behind the types
+  abbrev behind_types : List TypeId → Option TypeId → Passing (Unit {0})
+  behind_types types id = do
+    round ← enclosing_now
+    with_enclosing (record round { cells = 0 })
+    root ← result number name.place id
+    behind_result round root types
 
   abbrev opened_here : Passed → Passed
   opened_here s = record s { regions = opened (all_folded (flat_map formal_names groups)) ∷ s.regions }

@@ -170,16 +170,16 @@ bare_passed = map-Passed ToldExpr ToldPassed ToldLink Expr Passed Link (λ e. e.
 abbrev bare_link : Link-F ToldExpr ToldPassed ToldLink → Link-F Expr Passed Link
 bare_link = map-Link ToldExpr ToldPassed ToldLink Expr Passed Link (λ e. e.0) (λ p. p.0) (λ l. l.0)
 
-abbrev Passing : Type 0
+abbrev pub Passing : Type 0
 Passing = ℕ → ℕ → Look
 
-abbrev layer : Expr-F Expr Passed Link → Look
+abbrev pub layer : Expr-F Expr Passed Link → Look
 layer y = expression_look (map-Expr Expr Passed Link Look Passing Look look_expr look_passed look_link y)
 
-abbrev passed_layer : Passed-F Expr Passed Link → Passing
+abbrev pub passed_layer : Passed-F Expr Passed Link → Passing
 passed_layer y = passed_look (map-Passed Expr Passed Link Look Passing Look look_expr look_passed look_link y)
 
-abbrev link_layer : Link-F Expr Passed Link → Look
+abbrev pub link_layer : Link-F Expr Passed Link → Look
 link_layer y = link_look (map-Link Expr Passed Link Look Passing Look look_expr look_passed look_link y)
 
 abbrev so_layer : Expr-F Expr Passed Link → Spares

@@ -23,7 +23,7 @@ use Rattle.typing_rules.specs.Checked.{fits, or_mismatch}
 use Rattle.typing.specs.Strings.{characters, string_characters, string_type, string_constant}
 use Rattle.typing_laws.proofs.Tables.{AreLawful, admitted_few, char_cell, is_string_longer, lawful_more, required_stand}
 use Rattle.typing_laws.proofs.Reached.{Here, Reached, further_still, get_longer, one_longer}
-use Rattle.typing.proofs.Ways.{Owner, Way, One, Then, Typed}
+use Rattle.typing.proofs.Ways.{Owner, IsNoSet, Way, One, Then, Typed, no_set_adds}
 use Rattle.typing_laws.proofs.Grown.{both_true}
 use Rattle.typing_laws.proofs.Steps.{PassingDoes, Nothing, PassingLeaves, IsSoundThen, split, quietly, pure_does, keep_text_does, grown_plain, no_sites}
 
@@ -151,6 +151,10 @@ pub record IsStringType (n : ℕ) (s : Passed) (a : After TypeId) : Type 0 where
   pub few : nat_le n 65536 ≡ true
   pub string : is_string a.passed.types a.answer ≡ true
 
+adds_both : {acts : Bool} {owner : Owner} (s : Passed) (first second : Form) → IsNoSet first → IsNoSet second
+    → Way acts owner 0 0 [] s (record s { types = (s.types ++ first ∷ []) ++ second ∷ [] })
+adds_both {owner = owner} s first second a b = Then (One (Typed first (no_set_adds owner first a))) (One (Typed second (no_set_adds owner second b)))
+
 pub string_type_is : (place : Place) (n : ℕ) (s : Passed) (a : After TypeId) → 1 < n → AreLawful s.types → string_type place n s ≡ Ok a
     → IsStringType n s a
 unfolding string_type
@@ -168,7 +172,7 @@ string_type_is place n s a more are is =
     let longer = length-append s.types (form (pos n) ∷ []) in
     subst (IsStringType n s) z.2 (record {
       same = refl;
-      way = Then (One (Typed (form (pos n)))) (One (Typed array));
+      way = adds_both s (form (pos n)) array tt tt;
       lawful = lawful_more (s.types ++ form (pos n) ∷ []) array z.0 one tt (omega (arith, longer), omega (arith, chars, longer)) z.1;
       few = few_components s.types n z.0 one z.1;
       string = string_at_end s.types n more;

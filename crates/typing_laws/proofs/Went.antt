@@ -90,7 +90,7 @@ grow_then f g = record {
 }
 
 types_grow : {acts : Bool} {owner : Owner} {from to : ℕ} {look : Look} {old new : Passed} → Step acts owner from to look old new → IsLonger old.types new.types
-types_grow {old = old} (Typed form) = one_longer old.types form
+types_grow {old = old} (Typed form adds) = one_longer old.types form
 types_grow other = as_long
 
 variables_grow : {acts : Bool} {owner : Owner} {from to : ℕ} {look : Look} {old new : Passed} → Step acts owner from to look old new
@@ -248,7 +248,7 @@ deeper_step (Marked one none) = Marked one none
 deeper_step (Site kind place few) = Site kind place few
 deeper_step (Point place few) = Point place few
 deeper_step (Threat root) = Threat root
-deeper_step (Typed form) = Typed form
+deeper_step (Typed form adds) = Typed form adds
 deeper_step (Text characters) = Text characters
 deeper_step (Given input output) = Given input output
 deeper_step (Define name denotation regions defines is) = absurd defines

@@ -1,6 +1,7 @@
 ghost use Rattle.std.specs.Prelude.{◌≡◌, ℕ, ◌+◌, ◌-◌, ◌^◌, ◌<◌, ◌≤◌, ◌++◌, length, take, drop, IfOk};
 ghost use Rattle.std.specs.Prelude.{MatchResult, Some, Ok, Err};
 ghost use Rattle.stack_machine.specs.Calls as calls;
+ghost use Rattle.stack_machine.specs.Calls.{called};
 
 use crate::store::{LINKS, address_of};
 use crate::{Cell, MachineFault, Store};
@@ -39,8 +40,8 @@ impl Store {
     /// `cup`: the frame begins whose links lie below so many cells; the next instruction is its return.
     pub fn call(&mut self, count: u32, next: usize) -> Result<(), MachineFault>
         ensures value { MatchResult result
-            (λ _. (target : ℕ) → calls.called count target next (view self.old) ≡ Ok (view self.new, target))
-            (λ fault. (target : ℕ) → calls.called count target next (view self.old) ≡ Err fault) }
+            (λ _. (target : ℕ) → called count target next (view self.old) ≡ Ok (view self.new, target))
+            (λ fault. (target : ℕ) → called count target next (view self.old) ≡ Err fault) }
         ensures size { self.new.size ≡ self.old.size }
     {
         let count = count as usize + LINKS;

@@ -6,8 +6,7 @@ pub returns : goal.returns
 returns g c =
     let compiled = c.in_ok-compiled.compiled in
     let of_layers = c.in_ok-compiled.ensures in
-    let of = λ (r : g.row.R.Denot) (w : g.row.W.Denot). streams (g.R.Feed.remaining r) (g.R.Feed.asked r) (g.R.Feed.failures r)
-    (g.W.Sink.contents w) (g.W.Sink.offered w) (g.W.Sink.failures w) in
+    let of = λ (r : g.row.R.Denot) (w : g.row.W.Denot). streams (g.R.Feed.fed r) (g.W.Sink.got w) in
     let before = of c.args.reader.now c.args.writer.now in
     let after = of c.run_prepared-stop.new.reader c.run_prepared-stop.new.writer in
     record {

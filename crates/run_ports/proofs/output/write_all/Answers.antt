@@ -6,9 +6,9 @@ use Rattle.run_ports.proofs.output.write_all.Goals as goal
 pub loop-rest-init : goal.loop-rest-init
 loop-rest-init g c = (
   refl,
-  (record { done = []; lost = c.args.piece.now; grew = Appends-none (g.W.Sink.contents c.args.writer.now); in_order = refl }, refl),
+  (record { done = []; lost = c.args.piece.now; grew = Appends-none (g.W.Sink.got c.args.writer.now).contents; in_order = refl }, refl),
   Offering-none
-      (g.W.Sink.offered c.args.writer.now) (length c.args.piece.now),
+      (g.W.Sink.got c.args.writer.now).offered (length c.args.piece.now),
 )
 
 pub loop-rest-preserved : goal.loop-rest-preserved

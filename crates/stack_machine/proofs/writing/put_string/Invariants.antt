@@ -6,7 +6,7 @@ use Rattle.stack_machine.proofs.writing.put_string.Given as goal
 
 abbrev pub invariant-loop-word : goal.invariant-loop-word
 invariant-loop-word g l =
-    (g.W.Sink.failures l.writer ≡ g.W.Sink.failures l.initial.writer) × Passes
-    (ports (g.W.Sink.contents l.initial.writer) (g.W.Sink.offered l.initial.writer) l.initial.to.output)
-    (ports (g.W.Sink.contents l.writer) (g.W.Sink.offered l.writer) l.to.output) (take l.word-index (characters l.word-items))
+    ((g.W.Sink.got l.writer).failures ≡ (g.W.Sink.got l.initial.writer).failures) × Passes
+    (ports (g.W.Sink.got l.initial.writer) l.initial.to.output)
+    (ports (g.W.Sink.got l.writer) l.to.output) (take l.word-index (characters l.word-items))
     × (l.to.input ≡ l.initial.to.input)

@@ -20,7 +20,7 @@ returns c =
       bytes,
       c.in_ok-push_str.ensures.bytes ∙ ap (λ text. text ++ word) (ap (λ v. v.items) c.in_ok-told.ensures.ok) ∙ ap (λ w. bytes ++ w) c.word_of-word.ensures,
       λ unread.
-          let ran = ran_on code cells c.args.budget stop _ _ _ _ _ _ input (ap (λ s. Some s.now) c.new-reader.ensures.inner) unread c.run.ensures.ran in
+          let ran = ran_on code cells c.args.budget stop _ _ _ _ input (ap (λ s. Some s.now) c.new-reader.ensures.inner) unread c.run.ensures.ran in
           let done : ran.0 ≡ bytes = ap (λ l. l ++ ran.0) (sym empty) ∙ sym ran.1 ∙ held in
           subst (λ n. Did stop bytes (machine code input n c.args.budget)) c.in_ok-machine.ensures
           (subst (λ l. Did stop l (machine code input cells c.args.budget)) done ran.2),

@@ -10,9 +10,9 @@ pub returns-clause-places : goal.returns-clause-places
 returns-clause-places c =
     let known = c.args.self.now in
     let lists = known.resting.lists.items in
-    let root = c.root_of-root.result in
+    let root = c.root-root.result in
     let places = c.in_ok-places.places.items in
-    changing-at c.args.how root lists (said_all known.held.items) places c.root_of-root.ensures (known.all_listed c.if-not-self.false)
+    changing-at c.args.how root lists (said_all known.held.items) places c.root-root.ensures (known.all_listed c.if-not-self.false)
     (subst (λ (list : List Held). HaveAll list (said_all known.held.items) places)
     (ap said_all c.deref.ensures.value
     ∙ listed-there lists root c.index.result.now (omega (arith, c.if-root-len.false, c.len.ensures)) c.index.ensures)

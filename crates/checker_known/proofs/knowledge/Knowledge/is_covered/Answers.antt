@@ -2,9 +2,10 @@ use Rattle.std.proofs.Common.{Bool, map, ◌∙◌, sym}
 use Rattle.checker_rows.specs.Rows.{indexes_at, rows_of}
 use Rattle.checker_state.specs.State.{Held, covers, wanted_of}
 use Rattle.checker_state.specs.View.{said_spans}
-use Rattle.checker_known.specs.declared.order.Group.TheVariants as group
+use Rattle.checker_state.specs.declared.held.Group.TheVariants as group
 use Rattle.checker_known.specs.Knowledge.{core, viewed}
-use Rattle.checker_known.proofs.InOrder.{any-here, covers-outside, inside-between, none-begin, none-more, none-there}
+use Rattle.checker_known.proofs.InOrder.{any-here, inside-between, none-begin, none-more, none-there}
+use Rattle.checker_state.proofs.HeldOrders.{covers-outside}
 use Rattle.checker_known.proofs.knowledge.Knowledge.is_covered.Goals as goal
 
 pub loop-place-init : goal.loop-place-init

@@ -3,9 +3,10 @@ use Rattle.std.specs.List.{list_any}
 use Rattle.checker_rows.specs.Rows.{indexes_at, rows_of}
 use Rattle.checker_state.specs.State.{Held, begins, joins, wanted_of}
 use Rattle.checker_state.specs.View.{said_spans}
-use Rattle.checker_known.specs.declared.order.Group.TheVariants as group
+use Rattle.checker_state.specs.declared.held.Group.TheVariants as group
 use Rattle.checker_known.specs.Knowledge.{core, viewed}
-use Rattle.checker_known.proofs.InOrder.{any-here, joined-outside, inside-between, none-begin, none-more, none-there}
+use Rattle.checker_known.proofs.InOrder.{any-here, inside-between, none-begin, none-more, none-there}
+use Rattle.checker_state.proofs.HeldOrders.{joined-outside}
 use Rattle.checker_known.proofs.knowledge.Knowledge.is_joined.Goals as goal
 
 pub loop-place-init : goal.loop-place-init

@@ -2,9 +2,10 @@ use Rattle.std.proofs.Common.{Bool, map, ◌∙◌, sym}
 use Rattle.checker_rows.specs.Rows.{indexes_at, rows_of}
 use Rattle.checker_state.specs.State.{Held, joins, wanted_of}
 use Rattle.checker_state.specs.View.{said_held, said_spans}
-use Rattle.checker_known.specs.declared.order.Group.TheVariants as group
+use Rattle.checker_state.specs.declared.held.Group.TheVariants as group
 use Rattle.checker_known.specs.Knowledge.{core, viewed}
-use Rattle.checker_known.proofs.InOrder.{any-here, joins-outside, inside-between, none-begin, none-more, none-there}
+use Rattle.checker_known.proofs.InOrder.{any-here, inside-between, none-begin, none-more, none-there}
+use Rattle.checker_state.proofs.HeldOrders.{joins-outside}
 use Rattle.checker_known.proofs.knowledge.Knowledge.is_joined_with.Goals as goal
 
 pub loop-place-init : goal.loop-place-init

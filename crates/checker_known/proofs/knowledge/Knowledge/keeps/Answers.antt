@@ -2,7 +2,7 @@ use Rattle.std.proofs.Common.{arith, ◌∙◌, sym}
 use Rattle.checker_state.specs.State.{table_of}
 use Rattle.checker_state.specs.View.{said_held}
 use Rattle.checker_known.specs.Knowledge.{core, viewed}
-use Rattle.checker_known.proofs.HeldGiven.{held-given}
+use Rattle.checker_state.proofs.HeldGiven.{held-given}
 use Rattle.checker_known.proofs.HeldLists.{contains-there}
 use Rattle.checker_known.proofs.knowledge.Knowledge.keeps.Goals as goal
 

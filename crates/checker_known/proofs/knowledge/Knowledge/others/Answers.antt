@@ -1,7 +1,8 @@
 use Rattle.std.proofs.Common.{◌∙◌, refl, sym}
 use Rattle.checker_state.specs.View.{said_held}
 use Rattle.checker_known.specs.Knowledge.{kept_by}
-use Rattle.checker_known.proofs.HeldLists.{no_held, said_all}
+use Rattle.checker_known.proofs.HeldLists.{said_all}
+use Rattle.checker_state.proofs.HeldOrders.{no_held}
 use Rattle.checker_known.proofs.Kept.{others-more, others-same}
 use Rattle.checker_known.proofs.knowledge.Knowledge.others.Goals as goal
 

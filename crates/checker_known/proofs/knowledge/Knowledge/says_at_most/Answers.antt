@@ -1,9 +1,10 @@
 use Rattle.std.proofs.Common.{◌∙◌, sym}
 use Rattle.checker_state.specs.State.{says_at_most}
 use Rattle.checker_state.specs.View.{said_term}
-use Rattle.checker_known.specs.declared.order.Group.TheVariants as group
+use Rattle.checker_state.specs.declared.held.Group.TheVariants as group
 use Rattle.checker_known.proofs.HeldLists.{said_all}
-use Rattle.checker_known.proofs.InOrder.{any-here, inside-between, none-at-all, none-begin, none-more, none-there, says-no-first, says-no-second, says-outside}
+use Rattle.checker_known.proofs.InOrder.{any-here, inside-between, none-at-all, none-begin, none-more, none-there}
+use Rattle.checker_state.proofs.HeldOrders.{says-no-first, says-no-second, says-outside}
 use Rattle.checker_known.proofs.knowledge.Knowledge.says_at_most.Goals as goal
 
 pub returns-in_default-root : goal.returns-in_default-root

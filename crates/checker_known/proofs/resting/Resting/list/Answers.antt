@@ -1,15 +1,15 @@
-use Rattle.std.proofs.Common.{ap}
-use Rattle.checker_state.specs.View.{said_held, said_stretch}
-use Rattle.checker_known.proofs.Listed.{listed-order, listed-stretch}
+use Rattle.checker_state.specs.View.{said_held, said_span}
+use Rattle.checker_known.proofs.Listed.{listed-ends, lists-span, lists-spans}
 use Rattle.checker_known.proofs.resting.Resting.list.Goals as goal
 
-pub returns-in-Stretched-clause-lists : goal.returns-in-Stretched-clause-lists
-returns-in-Stretched-clause-lists c =
-    listed-stretch (said_stretch c.in-Stretched.stretch) (said_held c.args.held.now) c.args.self.now c.list_stretch.new.self
-    (ap said_held c.in-Stretched.is) c.list_stretch.ensures.lists
+pub returns-in-Some-clause-lists : goal.returns-in-Some-clause-lists
+returns-in-Some-clause-lists c =
+    listed-ends (said_held c.args.held.now) _ c.args.self.now c.list_span-in-Some.new.self c.if-not-is_settled.ensures c.ends-inner.ensures
+    (lists-spans (said_span c.ends-inner.result.0) c.ends-inner.result.1 c.in-Some.inner (said_held c.args.held.now) c.args.self.now
+    c.list_span.new.self c.list_span-in-Some.new.self c.in-Some.is c.list_span.ensures.lists c.list_span-in-Some.ensures.lists)
 
-pub returns-in-Ordered-clause-lists : goal.returns-in-Ordered-clause-lists
-returns-in-Ordered-clause-lists c =
-    let order = c.in-Ordered.order in
-    listed-order order.root order.other order.number (said_held c.args.held.now) c.args.self.now c.list_order.new.self (ap said_held c.in-Ordered.is)
-    c.list_order.ensures.lists c.list_order.ensures.number
+pub returns-in_default-clause-lists : goal.returns-in_default-clause-lists
+returns-in_default-clause-lists c =
+    listed-ends (said_held c.args.held.now) _ c.args.self.now c.list_span.new.self c.if-not-is_settled.ensures c.ends-inner.ensures
+    (lists-span (said_span c.ends-inner.result.0) c.ends-inner.result.1 (said_held c.args.held.now) c.args.self.now c.list_span.new.self
+    c.in_default.is c.list_span.ensures.lists)

@@ -1,7 +1,8 @@
 use Rattle.std.proofs.Common.{◌∙◌, [], sym}
 use Rattle.checker_state.specs.State.{with_more}
 use Rattle.checker_state.specs.View.{said_held}
-use Rattle.checker_known.proofs.HeldLists.{no_held, said_all}
+use Rattle.checker_known.proofs.HeldLists.{said_all}
+use Rattle.checker_state.proofs.HeldOrders.{no_held}
 use Rattle.checker_known.proofs.Kept.{same-anew}
 use Rattle.checker_trail.proofs.Steps.{held-stays}
 use Rattle.checker_trail.proofs.Turns.{anew-moves}

@@ -3,7 +3,7 @@ use Rattle.interpreter.specs.declared.interpreter.Run.{Run}
 use Rattle.meaning.specs.declared.value.Value.TheVariants.{Number}
 use Rattle.meaning.specs.Effect.{members_of, number_of}
 use Rattle.meaning.specs.Meaning.{Argument, with_range}
-use Rattle.operations.specs.Answers.{Answers}
+use Rattle.interpreter_state.specs.Answers.{Answers}
 use Rattle.interpreter.specs.Pending.{top_of, below_top, operands_of}
 use Rattle.interpreter.proofs.Resuming.{goes_on_by, set_in_hand}
 use Rattle.interpreter.proofs.interpreter.Run.add_range.Goals as goal

@@ -5,7 +5,7 @@ use Rattle.typed_tree.specs.declared.tree.ForHead.{ForHead}
 use Rattle.interpreter.specs.declared.interpreter.Run.{Run}
 use Rattle.meaning.specs.Effect.{Reply, and_then, number_of}
 use Rattle.meaning.specs.Meaning.{Argument}
-use Rattle.operations.specs.Answers.{bounds_tested}
+use Rattle.interpreter_state.specs.Answers.{bounds_tested}
 use Rattle.interpreter.specs.Pending.{RunDoes, counting_on, forgetting, pending_of, top_of, below_top, operands_of}
 use Rattle.interpreter.specs.Size.{Adds}
 use Rattle.interpreter.proofs.Counts.{bounds-leave, looped-counting}

@@ -4,7 +4,7 @@ use Rattle.typed_tree.specs.declared.tree.Stmt.{Stmt}
 use Rattle.meaning.specs.Effect.{Reply, and_then}
 use Rattle.meaning.specs.Effect.{number_of}
 use Rattle.meaning.specs.Meaning.{Argument}
-use Rattle.operations.specs.Answers.{arm_at}
+use Rattle.interpreter_state.specs.Answers.{arm_at}
 use Rattle.interpreter.specs.Pending.{top_of, below_top, pending_of, operands_of}
 use Rattle.interpreter.proofs.FoundArms.{arm_or_error, arm-found, size-found}
 use Rattle.interpreter.proofs.Resuming.{executing, goes_on_below, stops_below}

@@ -2,7 +2,7 @@ use Rattle.std.proofs.Common.{List, ◌∙◌, ap, subst}
 use Rattle.interpreter.specs.declared.interpreter.Run.{Run}
 use Rattle.meaning.specs.declared.value.Value.{Value}
 use Rattle.meaning.specs.Meaning.{Argument, OfValue, operated_both}
-use Rattle.operations.specs.Answers.{Answers}
+use Rattle.interpreter_state.specs.Answers.{Answers}
 use Rattle.interpreter.specs.Pending.{top_of, below_top, operands_of}
 use Rattle.interpreter.proofs.Resuming.{goes_on_by}
 use Rattle.interpreter.proofs.interpreter.Run.combine.Goals as goal

@@ -3,7 +3,7 @@ use Rattle.interpreter_state.specs.declared.work.Caller.{Caller}
 use Rattle.meaning.specs.declared.outcome.Ending.TheVariants as ending
 use Rattle.meaning.specs.Effect.{Gives, Stops}
 use Rattle.meaning.specs.Meaning.{result_of}
-use Rattle.operations.specs.Answers.{answered}
+use Rattle.interpreter_state.specs.Answers.{answered}
 use Rattle.interpreter.specs.declared.interpreter.Run.{Run}
 use Rattle.interpreter.proofs.Activating.{closes, ends_turn, goes_back, stops_back}
 use Rattle.interpreter.proofs.Resuming.{continues_as}

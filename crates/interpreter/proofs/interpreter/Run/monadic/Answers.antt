@@ -1,7 +1,7 @@
 use Rattle.std.proofs.Common.{ℤ, subst}
 use Rattle.meaning.specs.Effect.{number_of}
 use Rattle.meaning.specs.Meaning.{operated}
-use Rattle.operations.specs.Answers.{Answers}
+use Rattle.interpreter_state.specs.Answers.{Answers}
 use Rattle.interpreter.specs.Pending.{top_of, below_top, operands_of}
 use Rattle.interpreter.proofs.Resuming.{goes_on_by, number_in_hand}
 use Rattle.interpreter.proofs.interpreter.Run.monadic.Goals as goal

@@ -3,7 +3,7 @@ use mir.Val.{SFits, to_z, of_z}
 use Rattle.std.proofs.lemmas.Int.{ints}
 use Rattle.std.proofs.Common.{◌≡◌, ℤ, rules, arith, Option, reverse, sym, ◌∙◌, ap}
 use Rattle.meaning.specs.Effect.{and_then, another, looped}
-use Rattle.operations.specs.Answers.{value_before}
+use Rattle.interpreter_state.specs.Answers.{value_before}
 use Rattle.interpreter.specs.Pending.{RunDoes, counting, counting_on, forgetting, pending_of, operands_of}
 use Rattle.interpreter.proofs.Resuming.{continues_as, passed_three}
 use Rattle.interpreter.proofs.interpreter.Run.next_round.Goals as goal

@@ -1,7 +1,7 @@
 use Rattle.std.proofs.Common.{sym, ◌∙◌, ap}
 use Rattle.std.specs.Option.{ok_or}
 use Rattle.meaning.specs.Meaning.{OfValue}
-use Rattle.operations.specs.Answers.{answered, checked}
+use Rattle.interpreter_state.specs.Answers.{answered, checked}
 use Rattle.interpreter.specs.Pending.{below_top, operands_of, tested, top_of}
 use Rattle.interpreter.proofs.Resuming.{goes_on_by, tested_as}
 use Rattle.interpreter.proofs.interpreter.Run.test.Goals as goal

@@ -1,6 +1,6 @@
 use Rattle.std.proofs.Common.{ℤ, subst}
 use Rattle.meaning.specs.Effect.{number_of}
-use Rattle.operations.specs.Answers.{Answers, positive}
+use Rattle.interpreter_state.specs.Answers.{Answers, positive}
 use Rattle.interpreter.specs.Pending.{top_of, below_top, operands_of}
 use Rattle.interpreter.proofs.Resuming.{goes_on_by, number_in_hand}
 use Rattle.interpreter.proofs.interpreter.Run.width_test.Goals as goal

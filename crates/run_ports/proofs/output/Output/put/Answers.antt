@@ -16,5 +16,5 @@ pub returns-clause-bytes : goal.returns-clause-bytes
 returns-clause-bytes g c =
     let s = c.args.self.now in
     let within : s.held < length s.bytes.items = omega arith in
-    Passes-held (g.W.Sink.contents c.args.writer.now) (g.W.Sink.offered c.args.writer.now) (held_by s) _ (c.args.byte ∷ [])
+    Passes-held (g.W.Sink.got c.args.writer.now).contents (g.W.Sink.got c.args.writer.now).offered (held_by s) _ (c.args.byte ∷ [])
     (take_more_set s.bytes.items s.held c.args.byte within)

@@ -5,6 +5,6 @@ use Rattle.run_ports.proofs.output.Output.put_all.Given as goal
 
 abbrev pub invariant-loop-byte : goal.invariant-loop-byte
 invariant-loop-byte g l =
-    (g.W.Sink.failures l.writer ≡ g.W.Sink.failures l.initial.writer) × Passes
-    (ports (g.W.Sink.contents l.initial.writer) (g.W.Sink.offered l.initial.writer) l.initial.self)
-    (ports (g.W.Sink.contents l.writer) (g.W.Sink.offered l.writer) l.self) (take l.byte-index l.bytes)
+    ((g.W.Sink.got l.writer).failures ≡ (g.W.Sink.got l.initial.writer).failures) × Passes
+    (ports (g.W.Sink.got l.initial.writer) l.initial.self)
+    (ports (g.W.Sink.got l.writer) l.self) (take l.byte-index l.bytes)

@@ -5,6 +5,6 @@ use Rattle.run_ports.proofs.output.Output.put_blanks.Given as goal
 
 abbrev pub invariant-loop-blank : goal.invariant-loop-blank
 invariant-loop-blank g l =
-    (g.W.Sink.failures l.writer ≡ g.W.Sink.failures l.initial.writer) × Passes
-    (ports (g.W.Sink.contents l.initial.writer) (g.W.Sink.offered l.initial.writer) l.initial.self)
-    (ports (g.W.Sink.contents l.writer) (g.W.Sink.offered l.writer) l.self) (replicate l._blank 32)
+    ((g.W.Sink.got l.writer).failures ≡ (g.W.Sink.got l.initial.writer).failures) × Passes
+    (ports (g.W.Sink.got l.initial.writer) l.initial.self)
+    (ports (g.W.Sink.got l.writer) l.self) (replicate l._blank 32)

@@ -19,7 +19,7 @@ returns-in_err-fill-clause-reads g c =
     let wrote = c.in_ok-write_out.ensures in
     rw (p.1, p.2)
     (Peek-failed _ _ _ _ _ _ _ c.in_err-fill.ensures.only c.in_err-fill.ensures.fills (sym c.if-is_spent.ensures)
-    (Out-is _ _ _ _ output c.write_out.new.self few wrote.nothing_held wrote.bytes wrote.pieces))
+    (Out-is (g.W.Sink.got c.args.writer.now) (g.W.Sink.got c.write_out.new.writer) output c.write_out.new.self few wrote.nothing_held wrote.bytes wrote.pieces))
 
 pub returns-clause-reads : goal.returns-clause-reads
 returns-clause-reads g c =
@@ -31,7 +31,8 @@ returns-clause-reads g c =
           let first = rw w.self-is at c.first.ensures in
           rw (w.self-is, w.reader-is, w.writer-is)
           (Peek-filled c.first.result _ _ _ _ _ _ w.in_ok-fill.ensures.fills (sym w.if-is_spent.ensures)
-          (Out-is _ _ _ _ output w.write_out.new.self few wrote.nothing_held wrote.bytes wrote.pieces) first)
+          (Out-is (g.W.Sink.got c.args.writer.now) (g.W.Sink.got w.write_out.new.writer) output w.write_out.new.self few wrote.nothing_held
+          wrote.bytes wrote.pieces) first)
       | else-is_spent w ↦
           let first = rw w.self-is at c.first.ensures in
           rw (w.self-is, w.reader-is, w.writer-is) (Peek-held c.first.result _ _ _ (sym w.if-is_spent.ensures) first)

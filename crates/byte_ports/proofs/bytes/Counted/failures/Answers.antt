@@ -1,5 +1,0 @@
-use Rattle.std.proofs.Common.{rules}
-use Rattle.byte_ports.proofs.bytes.Counted.failures.Goals as goal
-
-pub returns : goal.returns
-returns g c = search rules

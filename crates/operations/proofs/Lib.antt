@@ -1,3 +1,0 @@
-mod FoundArms
-pub mod Members
-mod RowOrder

@@ -1,6 +1,0 @@
-use Rattle.std.proofs.Common.{◌≡◌, map, pos, take}
-use Rattle.meaning.specs.declared.value.Value.TheVariants.{Number}
-use Rattle.operations.proofs.rows.row_of.Given as goal
-
-abbrev pub invariant-loop-character : goal.invariant-loop-character
-invariant-loop-character l = l.row.items ≡ map (λ c. Number (pos c)) (take l.character-index l.characters)
