@@ -1,4 +1,3 @@
-use crate::{Glimpse, Loss};
 use analyser_plan::{Course, Proposed};
 use analyser_tables::{Coming, Pace, Table};
 use cert_checker::walk::Walk;
@@ -35,12 +34,6 @@ pub(crate) struct Analysis<'a> {
     pub(crate) depth: usize,
     /// States in which nothing is known but by types, for blocks that are walked from calls.
     pub(crate) spare: Vec<State<'a>>,
-    /// What was seen at open sites, if anything is looked at.
-    pub(crate) glimpses: Option<Vec<Glimpse>>,
-    /// The sites that were left open where it is looked at.
-    pub(crate) fresh: Vec<u32>,
-    /// Where the range of each row moved, if that is noted.
-    pub(crate) losses: Vec<Loss>,
 }
 
 impl<'a> Analysis<'a> {
@@ -65,9 +58,6 @@ impl<'a> Analysis<'a> {
             narrows: false,
             depth: 0,
             spare: Vec::new(alloc),
-            glimpses: None,
-            fresh: Vec::new(alloc),
-            losses: Vec::new(alloc),
         }
     }
 

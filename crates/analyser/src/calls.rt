@@ -1,7 +1,7 @@
 //! Calls: what is known comes to where the called block begins, which is walked at once where it is due.
 
 use crate::analysis::is_told;
-use crate::{Analysis, Cause, Tally};
+use crate::{Analysis, Tally};
 use analyser_claims::Event;
 use cert_checker::blocks::begin;
 use checker_calls::{Actual, Bindings, settle};
@@ -73,13 +73,7 @@ impl<'a> Analysis<'a> {
         let mut passed = self.walk.flow.actuals(actuals, visits);
         settle(actuals_hold_call(actuals), &mut passed);
         let bindings = bound(self.parameters(call), &passed);
-        let at = Cause::Call {
-            name: call.name,
-            block: call.block,
-        };
-        let before = self.standing(at);
         self.arrive_at_entry(call.block as usize, bindings);
-        self.note(before, at);
         self.is_due(call.block as usize)
     }
 
@@ -118,9 +112,7 @@ impl<'a> Analysis<'a> {
     // What is known comes to the end of a block, and the walk goes on where it was before.
     fn end_visit(&mut self, number: u32, function: Option<FunctionResult>, caller: Caller<'a>) {
         self.walk.use_result(function);
-        let before = self.standing(Cause::End(number));
         self.arrive_at_exit(number as usize);
-        self.note(before, Cause::End(number));
         self.go_back(caller.mark);
         self.set_walked(number as usize, false);
         let flow = &mut self.walk.flow;

@@ -12,10 +12,8 @@ mod analysis;
 mod calls;
 mod implied;
 mod loops;
-mod losing;
 mod outcome;
 mod rounds;
-mod seeing;
 mod statements;
 mod tally;
 mod ways;
@@ -23,9 +21,7 @@ mod ways;
 pub use crate::accepting::Found;
 use crate::accepting::accepted;
 use crate::analysis::Analysis;
-pub use crate::losing::{Cause, Loss, Moved};
 use crate::outcome::filled;
-pub use crate::seeing::{Glimpse, Near, Operand};
 use crate::tally::Tally;
 use analyser_plan::{Course, Plan, Proposed};
 use cert_checker::program::grounds;
@@ -36,7 +32,6 @@ use checker_loops::loops::{all_claims, all_loop_aliases};
 use checker_rows::Rows;
 use checker_trail::State;
 use std::alloc::{AllocError, Global};
-use std::mem;
 use typed_tree::Tree;
 
 /// What a search for a certificate found, and what it took.
@@ -83,16 +78,7 @@ pub fn find(alloc: Global, tree: &Tree) -> Result<Search, AllocError>
         course,
     } = Plan::of(alloc, &rows)?;
     let mut visits = Tally { entries: 0 };
-    let mut losses = Vec::new(alloc);
-    let given = given_facts(
-        alloc,
-        &rows,
-        &frame,
-        &course,
-        proposed,
-        &mut visits,
-        &mut losses,
-    );
+    let given = given_facts(alloc, &rows, &frame, &course, proposed, &mut visits);
     let mut refusals = 0;
     let found = accepted(alloc, tree, filled(&rows, frame, given?), &mut refusals)?;
     Ok(Search {
@@ -100,67 +86,6 @@ pub fn find(alloc: Global, tree: &Tree) -> Result<Search, AllocError>
         visits: visits.entries,
         refusals,
     })
-}
-
-/// Where the range of each row moved last while a certificate is found: nothing is promised of that.
-///
-/// # Errors
-/// No memory.
-pub fn losses(alloc: Global, tree: &Tree) -> Result<Vec<Loss>, AllocError> {
-    let rows = Rows::of(alloc, tree)?;
-    let Plan {
-        frame,
-        proposed,
-        course,
-    } = Plan::of(alloc, &rows)?;
-    let none = Loss {
-        least: None,
-        greatest: None,
-    };
-    let mut losses = vec![in alloc; none; rows.count()]?;
-    let mut visits = Tally { entries: 0 };
-    let _given = given_facts(
-        alloc,
-        &rows,
-        &frame,
-        &course,
-        proposed,
-        &mut visits,
-        &mut losses,
-    )?;
-    Ok(losses)
-}
-
-/// What a walk by a certificate knows where it leaves sites open, in its order: nothing is promised of that.
-///
-/// # Errors
-/// No memory.
-pub fn glimpses(
-    alloc: Global,
-    tree: &Tree,
-    certificate: &Certificate,
-) -> Result<Vec<Glimpse>, AllocError> {
-    let rows = Rows::of(alloc, tree)?;
-    let plan = Plan::of(alloc, &rows)?;
-    let grounds = grounds(alloc, tree, certificate)?;
-    let claims = all_claims(alloc, tree, certificate)?;
-    let aliases = all_loop_aliases(alloc, tree, &grounds.pairs, &claims)?;
-    let declared = match all_declared(alloc, tree)? {
-        Some(declared) => declared,
-        None => Vec::new(alloc),
-    };
-    let state = State::of_types(alloc, grounds.version, &rows);
-    let walk = Walk::new(state, grounds, &claims, &aliases);
-    let mut analysis = Analysis::new(alloc, walk, &plan.course, &declared);
-    analysis.glimpses = Some(Vec::new(alloc));
-    for number in 0..tree.blocks.len() {
-        analysis.visit_alone(number, &mut Tally { entries: 0 });
-    }
-    match (analysis.refusal(), analysis.glimpses.take()) {
-        (Some(refused), _) => Err(refused.into()),
-        (None, Some(glimpses)) => Ok(glimpses),
-        (None, None) => Ok(Vec::new(alloc)),
-    }
 }
 
 // The facts of those that are proposed which are given wherever they have to be.
@@ -171,7 +96,6 @@ fn given_facts(
     course: &Course,
     proposed: Proposed,
     visits: &mut Tally,
-    losses: &mut Vec<Loss>,
 ) -> Result<Proposed, AllocError> {
     let tree = rows.tree();
     let grounds = grounds(alloc, tree, frame)?;
@@ -186,9 +110,7 @@ fn given_facts(
     let walk = Walk::new(state, grounds, &claims, &aliases);
     let mut analysis = Analysis::new(alloc, walk, course, &declared);
     analysis.keep(alloc, proposed)?;
-    mem::swap(&mut analysis.losses, losses);
     analysis.run(visits);
-    mem::swap(&mut analysis.losses, losses);
     match analysis.refusal() {
         Some(refused) => Err(refused.into()),
         None => analysis.take(alloc),

@@ -1,5 +1,4 @@
-use crate::seeing::Head;
-use crate::{Analysis, Cause, Tally};
+use crate::{Analysis, Tally};
 use checker_expressions::Count;
 use checker_loops::{Round, Turns, claim_facts};
 use checker_trail::Mark;
@@ -81,9 +80,7 @@ impl<'a> Analysis<'a> {
         let to = self.value(&head.last.value, left, visits);
         let way = Way::of(self.state().table(), head, from, to);
         let mark = self.mark();
-        let before = self.before();
         let steady = self.begin_turns(head.loop_number, &way);
-        self.look(before, Head::For(head));
         self.turns(one, &Some(steady), left, visits);
         self.leave_turns(mark, &way);
     }
@@ -132,15 +129,12 @@ impl<'a> Analysis<'a> {
         if let Some(table) = self.loops.get_mut(number as usize) {
             table.most = turns.most;
         }
-        match self.heads.get(number as usize) {
-            None => turns.begin(&mut self.walk.flow.state),
-            Some(facts) => {
-                let round = Round {
-                    facts,
-                    ..turns.round
-                };
-                Turns { round, ..turns }.begin(&mut self.walk.flow.state);
-            }
+        if let Some(facts) = self.heads.get(number as usize) {
+            let round = Round {
+                facts,
+                ..turns.round
+            };
+            Turns { round, ..turns }.begin(&mut self.walk.flow.state);
         }
     }
 
@@ -166,9 +160,7 @@ impl<'a> Analysis<'a> {
 
     // A turn ends, and the walk goes back to a mark. Whether it moved what is known at the loop's head.
     fn leave_turn(&mut self, number: u32, mark: Mark) -> bool {
-        let before = self.standing(Cause::Turn(number));
         let moved = self.arrive_at_loop(number, true);
-        self.note(before, Cause::Turn(number));
         self.go_back(mark);
         moved
     }

@@ -47,7 +47,7 @@ impl<'a> Analysis<'a> {
     }
 
     // Walks over a block from no call.
-    pub(crate) fn visit_alone(&mut self, number: usize, visits: &mut Tally) {
+    fn visit_alone(&mut self, number: usize, visits: &mut Tally) {
         if let Ok(number) = u32::try_from(number) {
             self.visit(number, DEEP * WALK, visits);
         }

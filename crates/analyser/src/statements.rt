@@ -1,4 +1,3 @@
-use crate::seeing::Head;
 use crate::{Analysis, Tally};
 use analyser_claims::{events_of, expression_events};
 use checker_expressions::Count;
@@ -65,9 +64,7 @@ impl<'a> Analysis<'a> {
     fn case(&mut self, head: &CaseHead, arms: &[Stmt], left: u32, visits: &mut Tally) {
         visits.tick(head.number);
         let known = self.value(&head.index, left, visits);
-        let before = self.before();
         let index = self.index_of(head, arms.len(), &known);
-        self.look(before, Head::Case(head));
         let mark = self.mark();
         self.die();
         let mut behind = self.leave(mark);
@@ -111,9 +108,7 @@ impl<'a> Analysis<'a> {
         let alloc = self.alloc();
         let comes_back = !statement_holds_call(statement)
             || self.calls_among(events_of(alloc, statement), left, visits);
-        let before = self.before();
         self.walk.statement(statement, visits);
-        self.look(before, Head::Simple(statement));
         self.die_unless(comes_back);
     }
 
@@ -123,9 +118,7 @@ impl<'a> Analysis<'a> {
         let alloc = self.alloc();
         let comes_back = !holds_call(expression)
             || self.calls_among(expression_events(alloc, expression), left, visits);
-        let before = self.before();
         let known = self.walk.expression(expression, visits);
-        self.look(before, Head::Value(expression));
         self.die_unless(comes_back);
         known
     }
