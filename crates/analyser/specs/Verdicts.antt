@@ -1,11 +1,9 @@
 -- A verdict that is handed on with the certificate for which the checker made it: what the checker promises of it. It
 -- does not say how the certificate was found.
-use Rattle.std.specs.Prelude.{◌≡◌, List, length, true}
+use Rattle.std.specs.Prelude.{◌≡◌, length}
 use Rattle.cert_checker.specs.declared.Verdict.{Verdict}
 use Rattle.cert_checker.specs.Promise.{CallsChangeWhatTheyList, ClosedNeverErr, StatesHold, Valid}
 use Rattle.certificate.specs.declared.Certificate.{Certificate}
-use Rattle.certificate.specs.Contents.{are_in_order, contents}
-use Rattle.typed_tree.specs.declared.site.Site.{Site}
 use Rattle.typed_tree.specs.declared.tree.Tree.{Tree}
 use Rattle.typed_tree.specs.Entries.{AreNumbered, entries_of}
 use Rattle.typed_tree.specs.Ids.{AreInOrder}
@@ -19,8 +17,3 @@ pub record IsVerdict (tree : Tree) (certificate : Certificate) (verdict : Verdic
       IsWellFormed tree → AreInOrder tree.sites.items → ClosedNeverErr tree verdict.open_sites.items
   pub states_hold : IsWellFormed tree → AreNumbered tree → StatesHold tree certificate
   pub calls_change : IsWellFormed tree → CallsChangeWhatTheyList tree certificate
-
--- a certificate that has a spelling and is accepted, and by which these sites are open
-pub record LeavesOpen (tree : Tree) (open_sites : List Site) (certificate : Certificate) : Type 0 where
-  pub in_order : are_in_order certificate.version (contents certificate) ≡ true
-  pub valid : Valid tree certificate open_sites

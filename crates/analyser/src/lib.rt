@@ -14,10 +14,8 @@ mod implied;
 mod loops;
 mod outcome;
 mod rounds;
-mod sites;
 mod statements;
 mod tally;
-pub mod trimming;
 mod ways;
 
 pub use crate::accepting::Found;
