@@ -187,6 +187,7 @@ impl<'a> Analysis<'a> {
             ladders: &self.course.ladders,
             narrows: self.narrows,
             counts,
+            hurries: false,
         }
     }
 }
