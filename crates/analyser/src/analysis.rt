@@ -187,7 +187,6 @@ impl<'a> Analysis<'a> {
             ladders: &self.course.ladders,
             narrows: self.narrows,
             counts,
-            hurries: false,
         }
     }
 }

@@ -15,15 +15,6 @@ const FREE_MOVES: u8 = 3;
 /// How often it moves to steps of a ladder behind that. Then it goes to the last number that it may be.
 const LADDER_MOVES: u8 = 8;
 
-/// Where so many turns moved what is known at a place, an end that moves goes to a step at once.
-const SWIFT: u32 = 6;
-
-/// And where so many did, all ranges go on to their next steps, whether they moved or not.
-const LEAPS: u32 = 64;
-
-/// And to all values, where so many did.
-const MOST_TURNS: u32 = 128;
-
 /// How often the number of an order goes to the least that is given. Then it skips those that are less than -1.
 const ORDER_MOVES: u8 = 3;
 
@@ -39,8 +30,6 @@ const NUMBERS: u32 = 64;
 pub struct Table {
     /// Whether a state came to the place.
     pub is_reached: bool,
-    // How many turns moved what is known here.
-    turns: u32,
     /// How many turns are finished at most, if it is the head of a for, where that was last walked.
     pub most: i64,
     // Of each fact what stands beside it, in the order of the facts.
@@ -69,8 +58,6 @@ pub struct Pace<'p, 'a> {
     pub narrows: bool,
     /// Whether moves count, others are free: at the head of a loop those don't that come from outside.
     pub counts: bool,
-    /// Whether no move is free, since turns moved the place often.
-    pub hurries: bool,
 }
 
 impl Table {
@@ -87,7 +74,6 @@ impl Table {
         };
         Ok(Table {
             is_reached: false,
-            turns: 0,
             most: 0,
             beside: Vec::from_elem(alloc, none, facts)?,
         })
@@ -105,10 +91,6 @@ impl Table {
         }
         let mut has_moved = !self.is_reached;
         self.is_reached = true;
-        let pace = Pace {
-            hurries: self.turns >= SWIFT,
-            ..pace
-        };
         for place in (0..facts.len()).rev() {
             let outcome = match (facts.get_mut(place), self.beside.get_mut(place)) {
                 (Some(fact), Some(beside)) => pace.outcome(fact, beside, coming),
@@ -124,23 +106,7 @@ impl Table {
                 }
             }
         }
-        if has_moved && pace.counts && matches!(coming, Coming::Here(_)) {
-            self.turned(facts, &pace);
-        }
         has_moved
-    }
-
-    // A turn moved what is known here. Where many did, ranges don't wait for what moves them.
-    fn turned(&mut self, facts: &mut [Fact], pace: &Pace) {
-        self.turns = self.turns.saturating_add(1);
-        if self.turns != LEAPS && self.turns != MOST_TURNS {
-            return;
-        }
-        for fact in facts.iter_mut() {
-            if let Fact::Range { path, range } = fact {
-                pace.leap(path, range, self.turns == MOST_TURNS);
-            }
-        }
     }
 
     // A state comes in a round that narrows: nothing moves yet.
@@ -298,29 +264,13 @@ impl<'p, 'a> Pace<'p, 'a> {
         limits.at_least(first).at_most(last)
     }
 
-    // A range goes on to the next steps of its row, or to all values.
-    fn leap(&self, path: &Path, range: &mut Interval, is_last: bool) {
-        let row = rows_named(self.rows, path).first;
-        let limits = self.rows.row_limits(row);
-        if is_last || range.is_empty() {
-            *range = if is_last { limits } else { *range };
-            return;
-        }
-        let (first, last) = (range.first(), range.last());
-        let below = self.ladders.below(row, first.saturating_sub(1));
-        let above = self.ladders.above(row, last.saturating_add(1));
-        *range = limits
-            .at_least(below.unwrap_or(first))
-            .at_most(above.unwrap_or(last));
-    }
-
     // Where an end goes that moves: to what comes, to the step of the ladder there, or to the last that it may be.
     fn end(&self, moves: &mut u8, came: i64, step: i64, limit: i64) -> i64 {
         if !self.counts {
             return came;
         }
         *moves = moves.saturating_add(1);
-        if *moves <= FREE_MOVES && !self.hurries {
+        if *moves <= FREE_MOVES {
             came
         } else if *moves <= FREE_MOVES + LADDER_MOVES {
             step

@@ -5,4 +5,3 @@ pub mod Turns
 pub mod Elements
 pub mod Meeting
 pub mod Outside
-pub mod Shorter

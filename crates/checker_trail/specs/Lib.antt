@@ -1,3 +1,2 @@
 pub mod Trail
 pub mod Meets
-pub mod Shorter

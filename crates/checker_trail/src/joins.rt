@@ -25,7 +25,6 @@ impl<'a> State<'a> {
             return self.go(other);
         }
         self.meet(mark, other);
-        self.shorten(mark);
     }
 
     /// What is known where the way since a mark meets a branch that began there and was walked before it.
@@ -87,8 +86,8 @@ impl<'a> State<'a> {
         self.set_rows(&rows);
     }
 
-    /// Something else is known of rows.
-    pub(crate) fn set_rows(&mut self, rows: &[(usize, Row)])
+    // Something else is known of rows.
+    fn set_rows(&mut self, rows: &[(usize, Row)])
         ensures { Moves (with_rows rows.now) self.old self.new }
     {
         for (row, known) in rows {

@@ -6,7 +6,6 @@ mod conditions;
 mod growths;
 mod joins;
 mod loops;
-mod shorter;
 mod start;
 mod state;
 mod stores;
