@@ -43,31 +43,18 @@ const CALLS: &str =
     mst 0; lod 0 4; lod 0 4; lod 0 4; cup 3 3; stp; \
     label 1; ent 0 4; ret 0; label 2; ent 0 4; ret 0; label 3; ent 0 4; ret 0";
 
-/// `i := 1; a[i] := i; i := a[i]`, where the indices of `a` are from 0 to 3, which is checked at the store.
-const ELEMENTS: &str =
-    "site 1 1 1; ent 5 4; ldc 1; str 0 8; lda 0 4; lod 0 8; chk 0 0 3; ixa 0 1; lod 0 8; sto; \
-    lda 0 4; lod 0 8; ixa 0 1; ind 0; str 0 8; stp";
-
-/// `s := r; r := s` of two cells each, which are checked to be defined the second time.
-const COPIES: &str =
-    "site 1 1 1; ent 4 4; lda 0 4; lda 0 6; ldm 2; stm 2; lda 0 6; lda 0 4; ldm 2; ckd 0 2; stm 2; stp";
-
 /// What stands behind a loop whose variable becomes undefined.
 const LOOP_END: &str =
     "ent 1 4; ldc 1; ldc 2; ujp 1; label 1; str 0 4; str 0 4; lod 0 2; str 0 4; stp";
 
-/// The mark of a step: how many numbers a whole call passes, `u` where a variable becomes undefined, `i` where an
-/// element is loaded, `a` where one is assigned, `m` where a row is copied, a letter for each deed with sets, and else
-/// `s`.
+/// The mark of a step: how many numbers a whole call passes, `u` where a variable becomes undefined, a letter for each
+/// deed with sets, and else `s`.
 fn mark_of(deed: &Deed) -> &'static str {
     match *deed {
         Deed::CallWith(..) => "1",
         Deed::CallWithTwo(..) => "2",
         Deed::CallWithThree(..) => "3",
         Deed::Undefine(..) => "u",
-        Deed::LoadElement(..) => "i",
-        Deed::StoreElement(..) => "a",
-        Deed::CopyRow(..) => "m",
         Deed::Set(deed) => mark_of_set(deed),
         _ => "s",
     }
@@ -111,14 +98,12 @@ fn row_told(alloc: Global, lines: &&str) -> Result<String, Fail> {
     marks(alloc, &assembled(alloc, lines)?)
 }
 
-static ROWS: [(&str, &str); 10] = [
+static ROWS: [(&str, &str); 8] = [
     (LOOP, ".s.s.s....."),
     (LINE, ".ss..."),
     // A check is part of the step of its value.
     (CHECKED, ".s.s.....s..."),
-    (INDEXED, ".s.i......."),
-    (ELEMENTS, ".s.a.....i....."),
-    (COPIES, ".ssm.ssm..."),
+    (INDEXED, ".s.s......."),
     (ROUND, ".s.s.s.s........."),
     (SETS, ".esotssrtcccwsschsslctcssop."),
     (CALLS, ".s.1..2.....3......s.s.s"),
