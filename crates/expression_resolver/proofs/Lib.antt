@@ -1,5 +1,5 @@
-mod Actuals
-mod Calls
+mod PassedRows
+mod FunctionValues
 mod Chains
 pub mod Fitting
 pub mod HeldForms
