@@ -1,5 +1,5 @@
-mod PassedRows
-mod FunctionValues
+mod Actuals
+mod Calls
 mod Chains
 pub mod Fitting
 pub mod HeldForms

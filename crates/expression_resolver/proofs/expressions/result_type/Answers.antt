@@ -1,6 +1,6 @@
 use Rattle.std.proofs.Common.{rules}
 use Rattle.expression_resolver.proofs.Results.{no_result, no_variable, host_is}
-use Rattle.expression_resolver.proofs.calls.result_type.Goals as goal
+use Rattle.expression_resolver.proofs.expressions.result_type.Goals as goal
 
 pub returns-in_default : goal.returns-in_default
 returns-in_default c = no_result c.args.place c.args.root c.args.typer.now (search rules)

@@ -34,57 +34,57 @@ use Rattle.expression_resolver.specs.Accesses.{SelectsOne}
 use Rattle.expression_resolver.proofs.Selecting.{component_begins, component_stops, elements_take_one, element_selects, field_selects}
 use Rattle.expression_resolver.proofs.Chains.{chain_begun, chain_joined, link_made, links_are, relation_begun, relation_joined, right_is}
 use Rattle.expression_resolver.proofs.Named.{named_is}
-use Rattle.expression_resolver.proofs.PassedRows.{ArePassedFrom, one_held, one_passed}
-use Rattle.expression_resolver.proofs.FunctionValues.{value_by_host}
+use Rattle.expression_resolver.proofs.Actuals.{ArePassedFrom, one_held, one_passed}
+use Rattle.expression_resolver.proofs.Calls.{value_by_host}
 use Rattle.expression_resolver.proofs.PassedForms.{access_goes, no_width, ordinal_goes, other_kind}
 use Rattle.expression_resolver.proofs.PassedForms.{variable_made}
 use Rattle.expression_resolver.proofs.Scalars.{told_some}
 use Rattle.typed_tree.specs.declared.fault.TypeFault.TheVariants.{Mismatch}
-use Rattle.expression_resolver.proofs.+expressions.Goals as goal
-use Rattle.expression_resolver.proofs.+expressions.Goals.{members-in-Single+in_ok-single-in-Single}
-use Rattle.expression_resolver.proofs.+expressions.Goals.{members-in-Range+in-Some-get+in_ok-first-in-Range+in_ok-range-in-Range}
+use Rattle.expression_resolver.proofs.expressions.+expressions.Goals as goal
+use Rattle.expression_resolver.proofs.expressions.+expressions.Goals.{members-in-Single+in_ok-single-in-Single}
+use Rattle.expression_resolver.proofs.expressions.+expressions.Goals.{members-in-Range+in-Some-get+in_ok-first-in-Range+in_ok-range-in-Range}
 
 -- ---- a name
 
-pub expressions::expression-returns-in_err-denotation-in-Name : goal.expressions::expression-returns-in_err-denotation-in-Name
-expressions::expression-returns-in_err-denotation-in-Name t c =
+pub expression-returns-in_err-denotation-in-Name : goal.expression-returns-in_err-denotation-in-Name
+expression-returns-in_err-denotation-in-Name t c =
     let named = named_is c.args.written.now c.in-Name.name c.in-Name.is c.args.lead c.args.typer.now in
     search (rules, named)
 
-pub expressions::expression-returns-in-Routine : goal.expressions::expression-returns-in-Routine
+pub expression-returns-in-Routine : goal.expression-returns-in-Routine
 unfolding spec.denoted
-expressions::expression-returns-in-Routine t c =
+expression-returns-in-Routine t c =
     let named = named_is c.args.written.now c.in-Name.name c.in-Name.is c.args.lead c.args.typer.now in
     search (rules, named, behind_nothing)
 
-pub expressions::expression-returns-in_default : goal.expressions::expression-returns-in_default
-expressions::expression-returns-in_default t c =
+pub expression-returns-in_default : goal.expression-returns-in_default
+expression-returns-in_default t c =
     let named = named_is c.args.written.now c.in-Name.name c.in-Name.is c.args.lead c.args.typer.now in
     search (rules, named, behind_nothing)
 
 -- ---- chains and relations
 
-pub expressions::expression-returns-in_err-left-in-Chain : goal.expressions::expression-returns-in_err-left-in-Chain
-expressions::expression-returns-in_err-left-in-Chain t c =
+pub expression-returns-in_err-left-in-Chain : goal.expression-returns-in_err-left-in-Chain
+expression-returns-in_err-left-in-Chain t c =
     let it = c.in-Chain in
     let begun = chain_begun c.args.written.now c.args.lead c.args.typer.now it.first it.rest c.deref-in-Chain-2.result.now it.is c.deref-in-Chain-2.ensures in
     search (rules, begun)
 
-pub expressions::expression-returns-in_ok-left-in-Chain : goal.expressions::expression-returns-in_ok-left-in-Chain
-expressions::expression-returns-in_ok-left-in-Chain t c =
+pub expression-returns-in_ok-left-in-Chain : goal.expression-returns-in_ok-left-in-Chain
+expression-returns-in_ok-left-in-Chain t c =
     let it = c.in-Chain in
     let begun = chain_begun c.args.written.now c.args.lead c.args.typer.now it.first it.rest c.deref-in-Chain-2.result.now it.is c.deref-in-Chain-2.ensures in
     search (rules, begun, behind_both)
 
-pub expressions::expression-returns-in_err-left-in-Relation : goal.expressions::expression-returns-in_err-left-in-Relation
-expressions::expression-returns-in_err-left-in-Relation t c =
+pub expression-returns-in_err-left-in-Relation : goal.expression-returns-in_err-left-in-Relation
+expression-returns-in_err-left-in-Relation t c =
     let r = c.in-Relation in
     let begun = relation_begun c.args.written.now c.args.lead c.args.typer.now r.left r.operator r.place r.right c.deref-in-Relation.result.now
     r.right.value r.is c.deref-in-Relation.ensures refl in
     search (rules, begun)
 
-pub expressions::expression-returns-in_ok-left-in-Relation : goal.expressions::expression-returns-in_ok-left-in-Relation
-expressions::expression-returns-in_ok-left-in-Relation t c =
+pub expression-returns-in_ok-left-in-Relation : goal.expression-returns-in_ok-left-in-Relation
+expression-returns-in_ok-left-in-Relation t c =
     let r = c.in-Relation in
     let begun = relation_begun c.args.written.now c.args.lead c.args.typer.now r.left r.operator r.place r.right c.deref-in-Relation.result.now
     c.deref-in-Relation-2.result.now r.is c.deref-in-Relation.ensures c.deref-in-Relation-2.ensures in
@@ -92,33 +92,33 @@ expressions::expression-returns-in_ok-left-in-Relation t c =
 
 -- ---- a component
 
-pub components::component-returns-in_err-variable : goal.components::component-returns-in_err-variable
-components::component-returns-in_err-variable t c =
+pub component-returns-in_err-variable : goal.component-returns-in_err-variable
+component-returns-in_err-variable t c =
     let stops = component_stops c.args.name.now c.args.selectors.now (map expression c.args.indexes.now) c.args.lead c.args.typer.now
     c.in_err-variable.field-0.0 c.in_err-variable.ensures.made in
     search (rules, stops)
 
-pub components::component-returns-in_err-entered : goal.components::component-returns-in_err-entered
-components::component-returns-in_err-entered t c =
+pub component-returns-in_err-entered : goal.component-returns-in_err-entered
+component-returns-in_err-entered t c =
     let begins = component_begins c.args.name.now c.args.selectors.now (map expression c.args.indexes.now) c.args.lead c.args.typer.now
     c.named_variable.new.typer (denoted_of c.in_ok-variable.variable) c.in_ok-variable.ensures.made in
     search (rules, begins)
 
-pub components::component-returns-in_err-selection : goal.components::component-returns-in_err-selection
-components::component-returns-in_err-selection t c =
+pub component-returns-in_err-selection : goal.component-returns-in_err-selection
+component-returns-in_err-selection t c =
     let begins = component_begins c.args.name.now c.args.selectors.now (map expression c.args.indexes.now) c.args.lead c.args.typer.now
     c.named_variable.new.typer (denoted_of c.in_ok-variable.variable) c.in_ok-variable.ensures.made in
     search (rules, begins)
 
-pub components::component-returns : goal.components::component-returns
-components::component-returns t c =
+pub component-returns : goal.component-returns
+component-returns t c =
     let begins = component_begins c.args.name.now c.args.selectors.now (map expression c.args.indexes.now) c.args.lead c.args.typer.now
     c.named_variable.new.typer (denoted_of c.in_ok-variable.variable) c.in_ok-variable.ensures.made in
     search (rules, begins)
 
 -- an element is selected
-pub components::select_element-returns : goal.components::select_element-returns
-components::select_element-returns t c =
+pub select_element-returns : goal.select_element-returns
+select_element-returns t c =
     let made = c.args.selection.now in
     let e = c.in_ok-element.element in
     let site = c.in_ok-site.site in
@@ -135,16 +135,16 @@ components::select_element-returns t c =
     }
 
 -- a selector more is a field
-pub components::select-returns-in-Field : goal.components::select-returns-in-Field
-components::select-returns-in-Field t c =
+pub select-returns-in-Field : goal.select-returns-in-Field
+select-returns-in-Field t c =
     subst (λ s. SelectsOne s c.args.indexes.now c.args.typer.now c.args.selection.now c.select_field.result c.select_field.new.selection
     c.select_field.new.typer) (sym c.in-Field.is)
     (field_selects c.args.indexes.now c.args.typer.now c.args.selection.now c.select_field.new.selection c.select_field.new.typer
     c.in-Field.name c.select_field.result c.select_field.ensures)
 
 -- it is an index
-pub components::select-returns-in-Some : goal.components::select-returns-in-Some
-components::select-returns-in-Some t c =
+pub select-returns-in-Some : goal.select-returns-in-Some
+select-returns-in-Some t c =
     let taken = c.args.selection.now.indexes in
     let there : c.len.result < length c.args.indexes.now = grind (arith, nat_tests, c.in-Some.ensures.lookup.0) in
     let at : c.len.result ≡ length taken.items = grind (arith, c.len.ensures, taken.ok) in
@@ -156,26 +156,26 @@ components::select-returns-in-Some t c =
 
 -- ---- actual parameters
 
-pub actuals::actual-returns-in-None-clause-made : goal.actuals::actual-returns-in-None-clause-made
+pub actual-returns-in-None-clause-made : goal.actual-returns-in-None-clause-made
 unfolding spec.actual variable_at
-actuals::actual-returns-in-None-clause-made t c = λ callee position.
+actual-returns-in-None-clause-made t c = λ callee position.
     let read = typing_actual c.args.written.now in
     let free : is_some (out-Actual c.args.written.now).width ≡ false = search rules in
     let bare = no_width (expression (out-Actual c.args.written.now).value).first (out-Actual c.args.written.now).width free in
     search (rules, read, bare, behind_nothing)
 
-pub actuals::actual-returns-in-VariableParameter-clause-made : goal.actuals::actual-returns-in-VariableParameter-clause-made
+pub actual-returns-in-VariableParameter-clause-made : goal.actual-returns-in-VariableParameter-clause-made
 unfolding spec.actual variable_at
-actuals::actual-returns-in-VariableParameter-clause-made t c = λ callee position.
+actual-returns-in-VariableParameter-clause-made t c = λ callee position.
     let read = typing_actual c.args.written.now in
     let free : is_some (out-Actual c.args.written.now).width ≡ false = search rules in
     let bare = no_width (expression (out-Actual c.args.written.now).value).first (out-Actual c.args.written.now).width free in
     let made = c.passed_variable.ensures.made callee position in
     search (rules, read, bare, made, behind_nothing)
 
-pub actuals::actual-returns-in_default-clause-made : goal.actuals::actual-returns-in_default-clause-made
+pub actual-returns-in_default-clause-made : goal.actual-returns-in_default-clause-made
 unfolding spec.actual variable_at
-actuals::actual-returns-in_default-clause-made t c = λ callee position.
+actual-returns-in_default-clause-made t c = λ callee position.
     let read = typing_actual c.args.written.now in
     let free : is_some (out-Actual c.args.written.now).width ≡ false = search rules in
     let bare = no_width (expression (out-Actual c.args.written.now).value).first (out-Actual c.args.written.now).width free in
@@ -184,8 +184,8 @@ actuals::actual-returns-in_default-clause-made t c = λ callee position.
     search (rules, read, bare, other, made, behind_nothing)
 
 -- one more is made
-pub actuals::actuals_for-loop-i-preserved : goal.actuals::actuals_for-loop-i-preserved
-actuals::actuals_for-loop-i-preserved t c =
+pub actuals_for-loop-i-preserved : goal.actuals_for-loop-i-preserved
+actuals_for-loop-i-preserved t c =
     let here = c.loop-i in
     let within : here.i < length c.args.actuals.now = search rules in
     let rooted : here.i < length c.args.roots.now = grind (arith, within, c.requires) in
@@ -203,46 +203,46 @@ actuals::actuals_for-loop-i-preserved t c =
 
 -- ---- values for value parameters
 
-pub actuals::passed_value-returns-in-Some-Structured-clause-made : goal.actuals::passed_value-returns-in-Some-Structured-clause-made
+pub passed_value-returns-in-Some-Structured-clause-made : goal.passed_value-returns-in-Some-Structured-clause-made
 unfolding spec.passed_value spec.kind_now
-actuals::passed_value-returns-in-Some-Structured-clause-made t c = λ callee position.
+passed_value-returns-in-Some-Structured-clause-made t c = λ callee position.
     let made = c.passed_whole.ensures.made callee position in
     search (rules, made, behind_nothing)
 
-pub actuals::passed_ordinal-returns-in_err-value-clause-made : goal.actuals::passed_ordinal-returns-in_err-value-clause-made
-actuals::passed_ordinal-returns-in_err-value-clause-made t c = λ callee position.
+pub passed_ordinal-returns-in_err-value-clause-made : goal.passed_ordinal-returns-in_err-value-clause-made
+passed_ordinal-returns-in_err-value-clause-made t c = λ callee position.
     let goes = ordinal_goes c.args.type_id (expression c.args.written.now) callee position c.args.typer.now in
     search (rules, goes)
 
-pub actuals::passed_ordinal-returns-clause-made : goal.actuals::passed_ordinal-returns-clause-made
-actuals::passed_ordinal-returns-clause-made t c = λ callee position.
+pub passed_ordinal-returns-clause-made : goal.passed_ordinal-returns-clause-made
+passed_ordinal-returns-clause-made t c = λ callee position.
     let goes = ordinal_goes c.args.type_id (expression c.args.written.now) callee position c.args.typer.now in
     search (rules, goes, look_passed_value)
 
 -- ---- variables for variable parameters
 
-pub actuals::passed_access-returns-in_err-reached-clause-made : goal.actuals::passed_access-returns-in_err-reached-clause-made
-actuals::passed_access-returns-in_err-reached-clause-made t c = λ callee position.
+pub passed_access-returns-in_err-reached-clause-made : goal.passed_access-returns-in_err-reached-clause-made
+passed_access-returns-in_err-reached-clause-made t c = λ callee position.
     let goes = access_goes c.args.name.now c.args.selectors.now (map expression c.args.indexes.now) c.args.wanted callee position c.args.typer.now
     c.named_variable.new.typer (denoted_of c.in_ok-variable.variable) c.in_ok-variable.ensures.made in
     search (rules, goes)
 
-pub actuals::passed_access-returns-in-Err-clause-made : goal.actuals::passed_access-returns-in-Err-clause-made
-actuals::passed_access-returns-in-Err-clause-made t c = λ callee position.
+pub passed_access-returns-in-Err-clause-made : goal.passed_access-returns-in-Err-clause-made
+passed_access-returns-in-Err-clause-made t c = λ callee position.
     let goes = access_goes c.args.name.now c.args.selectors.now (map expression c.args.indexes.now) c.args.wanted callee position c.args.typer.now
     c.named_variable.new.typer (denoted_of c.in_ok-variable.variable) c.in_ok-variable.ensures.made in
     search (rules, goes)
 
-pub actuals::passed_access-returns-clause-made : goal.actuals::passed_access-returns-clause-made
-actuals::passed_access-returns-clause-made t c = λ callee position.
+pub passed_access-returns-clause-made : goal.passed_access-returns-clause-made
+passed_access-returns-clause-made t c = λ callee position.
     let goes = access_goes c.args.name.now c.args.selectors.now (map expression c.args.indexes.now) c.args.wanted callee position c.args.typer.now
     c.named_variable.new.typer (denoted_of c.in_ok-variable.variable) c.in_ok-variable.ensures.made in
     let looks = variable_made c.args.wanted c.in_ok-reached.reached (denoted_of c.in_ok-variable.variable).origin callee position
     c.in_ok-reached.ensures.origin c.in_ok-reached.ensures.counted in
     search (rules, goes, looks)
 
-pub actuals::passed_variable-returns-in-Component-clause-made : goal.actuals::passed_variable-returns-in-Component-clause-made
-actuals::passed_variable-returns-in-Component-clause-made t c =
+pub passed_variable-returns-in-Component-clause-made : goal.passed_variable-returns-in-Component-clause-made
+passed_variable-returns-in-Component-clause-made t c =
     let component = c.in-Component in
     let s = c.args.typer.now in
     λ callee position.
@@ -255,42 +255,42 @@ actuals::passed_variable-returns-in-Component-clause-made t c =
 
 -- ---- calls
 
-pub calls::function_value-returns-in-Err : goal.calls::function_value-returns-in-Err
+pub function_value-returns-in-Err : goal.function_value-returns-in-Err
 unfolding spec.function_value
-calls::function_value-returns-in-Err t c =
+function_value-returns-in-Err t c =
     let by = value_by_host c.args.place c.in_ok-site.site c.in_ok-made.made.root c.routine_call.new.typer in
     search (rules, by)
 
-pub calls::function_value-returns : goal.calls::function_value-returns
+pub function_value-returns : goal.function_value-returns
 unfolding spec.function_value
-calls::function_value-returns t c =
+function_value-returns t c =
     let by = value_by_host c.args.place c.in_ok-site.site c.in_ok-made.made.root c.routine_call.new.typer in
     search (rules, by, look_function_call)
 
-pub calls::routine_call-returns-in_err-found : goal.calls::routine_call-returns-in_err-found
+pub routine_call-returns-in_err-found : goal.routine_call-returns-in_err-found
 unfolding spec.routine_call heading_at
-calls::routine_call-returns-in_err-found t c = search (rules, length-map)
+routine_call-returns-in_err-found t c = search (rules, length-map)
 
-pub calls::routine_call-returns-in_err-passed : goal.calls::routine_call-returns-in_err-passed
+pub routine_call-returns-in_err-passed : goal.routine_call-returns-in_err-passed
 unfolding spec.routine_call heading_at
-calls::routine_call-returns-in_err-passed t c =
+routine_call-returns-in_err-passed t c =
     let stops = c.in_err-passed.ensures.made c.args.block in
     search (rules, length-map, stops)
 
-pub calls::routine_call-returns : goal.calls::routine_call-returns
+pub routine_call-returns : goal.routine_call-returns
 unfolding spec.routine_call heading_at
-calls::routine_call-returns t c = search (rules, length-map)
+routine_call-returns t c = search (rules, length-map)
 
 -- ---- a value that is assigned
 
-pub actuals::fitted-returns-clause-kept : goal.actuals::fitted-returns-clause-kept
-actuals::fitted-returns-clause-kept t c = λ id.
+pub fitted-returns-clause-kept : goal.fitted-returns-clause-kept
+fitted-returns-clause-kept t c = λ id.
     tested_alike c.args.written.now None (typed_of c.in_ok-made.made) (look_value c.in_ok-made.made.value) c.site.new.self c.expression.new.typer
     c.in_ok-made.ensures id
     ∙ site_alike c.test_kind.result c.args.place c.in_ok-site.site c.args.typer.now c.site.new.self c.in_ok-site.ensures.taken id
 
-pub actuals::fitted-returns-clause-held : goal.actuals::fitted-returns-clause-held
-actuals::fitted-returns-clause-held t c =
+pub fitted-returns-clause-held : goal.fitted-returns-clause-held
+fitted-returns-clause-held t c =
     let value = value_of c.in_ok-made.made.value in
     let target = c.args.type_id in
     let new = c.expression.new.typer in
@@ -302,8 +302,8 @@ actuals::fitted-returns-clause-held t c =
     let first = site_alike c.test_kind.result c.args.place c.in_ok-site.site c.args.typer.now c.site.new.self c.in_ok-site.ensures.taken target in
     held_as c.tested_as-tests.result value (held_by c.in_ok-range.value) (kind ∙ alike ∙ first ∙ sym tests) c.in_ok-range.ensures.1.held
 
-pub actuals::passed_set-returns-clause-held : goal.actuals::passed_set-returns-clause-held
-actuals::passed_set-returns-clause-held t c =
+pub passed_set-returns-clause-held : goal.passed_set-returns-clause-held
+passed_set-returns-clause-held t c =
     let value = value_of c.in_ok-made.made.value in
     let new = c.expression.new.typer in
     let test : members_test new.types c.args.type_id c.first_place.result (typed_of c.in_ok-made.made) ≡ Ok c.in_ok-fits.fits = search rules in
@@ -315,28 +315,28 @@ actuals::passed_set-returns-clause-held t c =
     ∙ held_as c.in_ok-fits.fits.tests value (held_by c.in_ok-fits.value) (kind ∙ alike ∙ c.requires ∙ sym told.0) c.in_ok-fits.ensures.1.held
 
 -- by the kind of the formal parameter's type
-pub actuals::passed_value-returns-in-Some-Set-clause-made : goal.actuals::passed_value-returns-in-Some-Set-clause-made
+pub passed_value-returns-in-Some-Set-clause-made : goal.passed_value-returns-in-Some-Set-clause-made
 unfolding spec.passed_value spec.kind_now
-actuals::passed_value-returns-in-Some-Set-clause-made t c = λ callee position.
+passed_value-returns-in-Some-Set-clause-made t c = λ callee position.
     let made = c.passed_set.ensures.made callee position in
     search (rules, made, behind_nothing)
 
-pub actuals::passed_value-returns-in-Some-Ordinal-clause-made : goal.actuals::passed_value-returns-in-Some-Ordinal-clause-made
+pub passed_value-returns-in-Some-Ordinal-clause-made : goal.passed_value-returns-in-Some-Ordinal-clause-made
 unfolding spec.passed_value spec.kind_now
-actuals::passed_value-returns-in-Some-Ordinal-clause-made t c = λ callee position.
+passed_value-returns-in-Some-Ordinal-clause-made t c = λ callee position.
     let made = c.passed_ordinal.ensures.made callee position in
     search (rules, made, behind_nothing)
 
-pub actuals::passed_value-returns-in-None-clause-made : goal.actuals::passed_value-returns-in-None-clause-made
+pub passed_value-returns-in-None-clause-made : goal.passed_value-returns-in-None-clause-made
 unfolding spec.passed_value spec.kind_now
-actuals::passed_value-returns-in-None-clause-made t c = λ callee position.
+passed_value-returns-in-None-clause-made t c = λ callee position.
     let made = c.passed_ordinal-in-None.ensures.made callee position in
     search (rules, made, behind_nothing)
 
 -- ---- operators
 
-pub expressions::link-returns-clause-held : goal.expressions::link-returns-clause-held
-expressions::link-returns-clause-held t c =
+pub link-returns-clause-held : goal.link-returns-clause-held
+link-returns-clause-held t c =
     let right = value_of c.in_ok-right.right.value in
     let gives = told_some (result_of (out-Link c.args.written.now).operator c.args.left.value right) (Mismatch (out-Link c.args.written.now).place)
     c.in_ok-value.value (search rules) in
@@ -346,8 +346,8 @@ expressions::link-returns-clause-held t c =
     c.operation_behind.new.self c.in_ok-value.value c.args.left.value right c.in_ok-operation.ensures gives)
     c.in_ok-value.ensures.1.held
 
-pub expressions::links-loop-written-preserved : goal.expressions::links-loop-written-preserved
-expressions::links-loop-written-preserved t c =
+pub links-loop-written-preserved : goal.links-loop-written-preserved
+links-loop-written-preserved t c =
     let here = c.loop-written in record {
       from =
           link_made c.args.rest.now c.args.left c.args.typer.now here.written-index here.links.items here.typed here.typer here.invariant.from
@@ -361,39 +361,39 @@ expressions::links-loop-written-preserved t c =
       room = omega (arith, c.push_reserved.ensures.capacity);
     }
 
-pub expressions::chain-chain-requires : goal.expressions::chain-chain-requires
-expressions::chain-chain-requires t c =
+pub chain-chain-requires : goal.chain-chain-requires
+chain-chain-requires t c =
     let made = c.links-rest.result in record {
       held = links_are (value_of c.args.left.value) made
           (subst (λ (l : Typed). IfOk made (λ one. AreHeldLinks l.value one.typed.value one.links.items)) c.typed.ensures c.links-rest.ensures.held);
     }
 
-pub expressions::chain-returns : goal.expressions::chain-returns
-expressions::chain-returns t c =
+pub chain-returns : goal.chain-returns
+chain-returns t c =
     let rest = map written_link c.args.rest.now in
     let old = c.args.typer.now in
     let new = c.links-rest.new.typer in
     let made = subst (λ l. MakesLinks (spec.links l rest old) c.links-rest.result new) c.typed.ensures c.links-rest.ensures.made in
     chain_joined c.args.left c.args.place rest old new c.links-rest.result c.chain.result made c.chain.ensures
 
-pub expressions::relation-relation-requires : goal.expressions::relation-relation-requires
-expressions::relation-relation-requires t c =
+pub relation-relation-requires : goal.relation-relation-requires
+relation-relation-requires t c =
     let made = c.right_operand-right.result in record {
       related = right_is (value_of c.args.left.value) made
           (subst (λ (l : Typed). IfOk made (λ one. relates one.operation l.value (value_of one.operand.value) ≡ true)) c.typed.ensures
           c.right_operand-right.ensures.related);
     }
 
-pub expressions::relation-returns : goal.expressions::relation-returns
-expressions::relation-returns t c =
+pub relation-returns : goal.relation-returns
+relation-returns t c =
     let behind_it = relation_behind c.args.operator c.args.place (expression c.args.right.now) in
     let old = c.args.typer.now in
     let new = c.right_operand-right.new.typer in
     let made = subst (λ l. MakesRight l (behind_it l old) c.right_operand-right.result new) c.typed.ensures c.right_operand-right.ensures.made in
     relation_joined c.args.left (behind_it (typed_of c.args.left) old) c.right_operand-right.result c.relation.result new made c.relation.ensures
 
-pub expressions::right_operand-returns-clause-related : goal.expressions::right_operand-returns-clause-related
-expressions::right_operand-returns-clause-related t c =
+pub right_operand-returns-clause-related : goal.right_operand-returns-clause-related
+right_operand-returns-clause-related t c =
     let r = typed_of c.in_ok-operand.operand in
     let does : relation_behind_value c.args.operator c.args.left.value ≡ Some c.in_ok-operation.operation = search rules in
     let may : may_relate c.expression.new.typer.types c.args.operator c.args.left r ≡ true = search rules in
@@ -401,15 +401,15 @@ expressions::right_operand-returns-clause-related t c =
 
 -- ---- members
 
-pub set_members::members-returns-in_default-clause-made : goal.set_members::members-returns-in_default-clause-made
-set_members::members-returns-in_default-clause-made t c =
+pub members-returns-in_default-clause-made : goal.members-returns-in_default-clause-made
+members-returns-in_default-clause-made t c =
     let here = c.loop-designator in
     let taken : c.len-taken.result ≡ length here.made.values.items = grind (arith, c.len-taken.ensures, here.made.values.ok) in
     let none : length c.args.values.now ≤ c.len-taken.result = grind (arith, nat_tests, c.in_default.ensures.lookup.0) in
     no_value c.args.designators.now c.args.values.now c.args.typer.now here.designator-index here.made here.typer here.invariant (omega (arith, taken, none))
 
-pub set_members::members-loop-designator-preserved : goal.set_members::members-loop-designator-preserved
-set_members::members-loop-designator-preserved t c =
+pub members-loop-designator-preserved : goal.members-loop-designator-preserved
+members-loop-designator-preserved t c =
     let here = c.loop-designator in
     let first = c.in-Some.first.now in
     let at : c.len-taken.result ≡ length here.made.values.items = grind (arith, c.len-taken.ensures, here.made.values.ok) in
@@ -441,8 +441,8 @@ set_members::members-loop-designator-preserved t c =
     ]
 
 -- the first value of a range is refused
-pub set_members::members-returns-in_err-first-in-Range-clause-made : goal.set_members::members-returns-in_err-first-in-Range-clause-made
-set_members::members-returns-in_err-first-in-Range-clause-made t c =
+pub members-returns-in_err-first-in-Range-clause-made : goal.members-returns-in_err-first-in-Range-clause-made
+members-returns-in_err-first-in-Range-clause-made t c =
     let here = c.loop-designator in
     let first = c.in-Some.first.now in
     let last = c.in-Some-get.last.now in
@@ -457,8 +457,8 @@ set_members::members-returns-in_err-first-in-Range-clause-made t c =
     search (rules, stops)
 
 -- or its last one
-pub set_members::members-returns-in_err-range-in-Range-clause-made : goal.set_members::members-returns-in_err-range-in-Range-clause-made
-set_members::members-returns-in_err-range-in-Range-clause-made t c =
+pub members-returns-in_err-range-in-Range-clause-made : goal.members-returns-in_err-range-in-Range-clause-made
+members-returns-in_err-range-in-Range-clause-made t c =
     let here = c.loop-designator in
     let first = c.in-Some.first.now in
     let last = c.in-Some-get.last.now in
