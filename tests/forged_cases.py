@@ -235,6 +235,76 @@ def sums_over_turns():
     )
 
 
+def marks_of_records():
+    """Records of an array whose fields are filled one by one, with a stretch of each field."""
+    source = (
+        b"program p(output); type r = record m, n: integer end; var t: array [1..3] of r; i: integer; "
+        b"begin for i := 1 to 3 do begin t[i].m := i; t[i].n := 0 end; "
+        b"for i := 1 to 3 do write(t[i].m:1, t[i].n:1) end."
+    )
+    # A loop doesn't list the array that is changed in it.
+    unlisted = told_at(source, b":= i; t", "certificate refused C7")
+    # Without its stretch of a field only what the last turn filled is known.
+    is_open, is_open_beside = (
+        told_at(source, field, "possible error: undefined variable") for field in (b"t[i].m:1", b"t[i].n:1")
+    )
+    not_given = told_at(source, b"for i", "certificate refused C2")
+    no_part = "certificate refused C1"
+    return Genuine(
+        "of_records_",
+        source,
+        (
+            b"pcert 3",
+            b"proc 0",
+            b"loop 0",
+            b"change v0",
+            b"fact defined v0[].m 1 v1-1",
+            b"fact defined v0[].n 1 v1-1",
+        ),
+        cut_behind={
+            0: certificate_line(1, "F1"),
+            1: unlisted,
+            **faults(_2=2, _3=3),
+            4: f"{is_open}\n{is_open_beside}",
+            5: is_open_beside,
+        },
+        exchanged={
+            **faults(_2_3=2, _2_4=2, _2_5=2, _2_6=2, _3_5=3, _3_6=3, _4_5=5, _4_6=5, _5_6=6),
+            (3, 4): OF_THE_PROGRAM,
+        },
+        without={1: certificate_line(1, "F1"), **faults(_2=2, _3=4), 4: unlisted, 5: is_open, 6: is_open_beside},
+        twice=faults(_1=2, _2=2, _3=3, _4=5, _5=6, _6=7),
+        instead={
+            1: {
+                # In these versions no path to elements is defined, and there is no later one.
+                b"pcert 1": certificate_line(5, "F2"),
+                b"pcert 2": certificate_line(5, "F2"),
+                b"pcert 4": certificate_line(1, "F1"),
+            },
+            5: {
+                # Whole elements are those of which each field is known.
+                b"fact defined v0[] 1 v1-1": None,
+                b"fact defined v0 1 v1-1": None,
+                b"fact defined v0[].m 2 v1-1": is_open,
+                # More than holds: the element of this turn, and that of the one before the first.
+                b"fact defined v0[].m 1 v1+0": not_given,
+                b"fact defined v0[].m 0 v1-1": not_given,
+                # What a turn fills isn't beside that.
+                b"fact defined v0[].m 1 v1-2": told_at(source, b"for i", "certificate refused C3"),
+                # No such field, and no bounds that the path takes.
+                b"fact defined v0[].l 1 v1-1": no_part,
+                b"fact defined v0[].m": no_part,
+            },
+            6: {
+                # Bounds that are left where no array is, a field of no record, elements of no array.
+                b"fact defined v0[].n 1 v1-1 1 3": no_part,
+                b"fact defined v0.n 1 v1-1": no_part,
+                b"fact defined v0[][] 1 v1-1 1 3": no_part,
+            },
+        },
+    )
+
+
 POP_BELOW, PUSH_ABOVE = "machine fault M1", "machine fault M2"
 OUTSIDE_THE_CODE = "machine fault M2"
 # What the machine does with two lines between the heading and `end` exchanged, as an output and what is told. No cell
@@ -403,7 +473,7 @@ def code_lines():
 
 
 def forged_cases():
-    for genuine in (list_of_numbers(), matrix_by_rows(), sums_over_turns()):
+    for genuine in (list_of_numbers(), matrix_by_rows(), sums_over_turns(), marks_of_records()):
         for make in (cut_certificates, changed_certificates, certificate_lines):
             yield from (certificate_case(genuine, *made) for made in make(genuine))
     for make in (cut_codes, changed_codes, code_lines):

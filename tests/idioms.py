@@ -439,7 +439,45 @@ def remainders(m):
     return m.program("read(t);", f"if (t >= 1) and (t <= {most}) then\n{compound('size := t; x := 0;', turn)};")
 
 
+def records(m):
+    """The records of an array are filled field by field, as far as the input says, and shown."""
+    high = m.number(m.randint(3, 40))
+    m.declare({"item": "record price, stock: integer; mark: char end", "table": f"array [1..{high}] of item"},
+              t="table", n="integer")
+    stores = m.shuffled(["t[i].price := i * 3;", m.pick("t[i].stock := i;", "read(t[i].stock);"), "t[i].mark := 'a';"])
+    fill = m.loop("i", 1, "n", *stores, forms="for", down=True)
+    fill = m.part("fill", "var t, n", fill, i="integer")
+    show = m.loop("j", 1, "n", "write(t[j].mark, t[j].price: 1, t[j].stock: 1);", down=True)
+    show = m.part("show", "var t, n", show, j="integer")
+    return m.program("read(n);", f"if (n >= 1) and (n <= {high}) then\n{compound(fill, show)};")
+
+
+def clock(m):
+    """Counters of which each steps where the one before it is full, as those of a clock; the last is never full."""
+    units = [f"u{number}" for number in range(m.randint(3, 7))]
+    m.declare({}, t="integer", **dict.fromkeys(units, "integer"))
+    steps = f"{units[-1]} := {units[-1]} + 1;"
+    for unit in reversed(units[:-1]):
+        full = compound(f"{unit} := 0;", steps)
+        steps = f"{unit} := {unit} + 1;\nif {unit} = {m.number(m.randint(2, 1000))} then\n{full};"
+    begin = "\n".join(f"{unit} := 0;" for unit in m.shuffled(units))
+    show = f"write({', '.join(units)});"
+    return m.program(begin, m.loop("t", 1, m.randint(2, 99999), steps, show, forms="for", down=True))
+
+
+def distances(m):
+    """Distances between the beginnings of two words: the first row and the first column of a table, then row by row."""
+    rows, columns = m.number(m.randint(2, 20)), m.number(m.randint(2, 20))
+    m.declare({"table": f"array [0..{rows}, 0..{columns}] of integer"}, d="table")
+    beside = m.shuffled([m.loop("i", 0, rows, "d[i, 0] := i;", forms="for", down=True),
+                         m.loop("j", 0, columns, "d[0, j] := j;", forms="for", down=True)])
+    least = "if d[i - 1, j] < d[i, j - 1] then\n  d[i, j] := d[i - 1, j]\nelse\n  d[i, j] := d[i - 1, j - 1];"
+    fill = m.loop("i", 1, rows, m.loop("j", 1, columns, least, forms="for"), forms="for")
+    fill = m.part("fill", "var d", "\n".join([*beside, fill]), i="integer", j="integer")
+    return m.program(fill, f"write(d[{rows}, {columns}]);")
+
+
 IDIOMS = (
     counted_list, stack, read_sort_print, divisor, histogram, halves, matrix, text, ring, sums, lengths, constants,
-    passed, side_by_side, fields, neighbours, remainders,
+    passed, side_by_side, fields, neighbours, remainders, records, clock, distances,
 )

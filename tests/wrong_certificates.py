@@ -12,6 +12,9 @@ BOUND = re.compile(rb"(v[0-9]+|)(.*)")
 ELEMENTS = re.compile(rb" defined (\S+) (\S+) (\S+)$")
 BLOCK = re.compile(rb" defined (\S+) (\S+) (\S+) (\S+) (\S+)$")
 GROWTH = re.compile(rb" grow v([0-9]+) (\S+) (\S+) (\S+) (\S+)$")
+PARTS = re.compile(rb" defined \S*\[\]")
+# What there isn't in a version yet.
+LATER = {1: (BLOCK, GROWTH, PARTS), 2: (PARTS,)}
 ARRAY = re.compile(rb" (?:range (?=\S*\[)|defined (?=\S+ \S+ \S))(v[0-9]+[.a-z0-9]*)")
 ORDINAL = re.compile(rb"(?<= range )v[0-9]+(?= )|(?<= order )v[0-9]+|(?<= )v[0-9]+(?=[+-])")
 TOKEN = re.compile(rb"v[0-9]+|\[\]|\.[a-z0-9]+|[+-]?[0-9]+")
@@ -60,13 +63,17 @@ def with_another_heading(chance, lines):
     return joined([chance.choice(HEADINGS), *lines[1:]])
 
 
-def in_version_1(lines):
-    """A certificate of version 1 with those lines that there may be in one."""
-    return [b"pcert 1", *(line for line in lines[1:] if not BLOCK.search(line) and not GROWTH.search(line))]
+def in_version(number, lines):
+    """A certificate of an earlier version with those lines that there may be in one."""
+    return [b"pcert %d" % number, *(line for line in lines[1:] if not any(form.search(line) for form in LATER[number]))]
 
 
 def of_version_1(_, lines):
-    return joined(in_version_1(lines))
+    return joined(in_version(1, lines))
+
+
+def of_version_2(_, lines):
+    return joined(in_version(2, lines))
 
 
 # ---- numbers
@@ -285,13 +292,13 @@ ALWAYS_WRONG = {"a line twice": doubled, "a line behind the next": put_behind_th
 WAYS = {"a line left out": left_out, "a fact left out": fact_left_out, "another number": nudged,
         "another variable": with_another_variable, "another bound": with_another_bound,
         "a stretch more": with_a_stretch, "two stretches more": with_two_stretches, "a block more": with_a_block,
-        "another growth": with_another_growth, "version 1": of_version_1}
+        "another growth": with_another_growth, "version 1": of_version_1, "version 2": of_version_2}
 
 
 def wrong_certificates(chance, text):
-    """What is done to each, and its text. Some are of version 1."""
+    """What is done to each, and its text. Some are of an earlier version."""
     lines = text.split(b"\n")[:-1]
     titles = {*chance.sample(sorted(ALWAYS_WRONG), 2), *WAYS}
     for title, way in (ALWAYS_WRONG | WAYS).items():
         if title in titles:
-            yield title, way(chance, chance.choice((lines, lines, in_version_1(lines))))
+            yield title, way(chance, chance.choice((lines, lines, in_version(1, lines), in_version(2, lines))))

@@ -3,7 +3,8 @@
 The compiler itself is asked. Before the statement, where it knows the same, a statement is put that adds numbers to the
 operand, one after another: `overflow` is told at the first that takes its greatest value over `maxint`, and so the
 greatest value is known. Taking numbers away finds the least one. The statements stand under `if odd(0) then`, behind
-which all is known that was known before; so all operands are asked at once. The certificate is that of the source."""
+which all is known that was known before; so all operands are asked at once. A certificate that is given is that of the
+source; else one is found each time."""
 
 import re
 from typing import NamedTuple
@@ -33,12 +34,13 @@ def known_at_sites(files, most):
     if source is None:
         return {}
     with Asker() as asker:
-        certificate = files.certificate or asker.path("certificate")
-        option = "--cert" if files.certificate else "--write-cert"
-        messages = asker.run([option, certificate, "--", files.source])
+        # A certificate that is written says what closes sites, and not all that is known: so each text has one found.
+        given = ["--cert", files.certificate] if files.certificate else []
+        messages = asker.run([*given, "--", files.source])
         places = [(it.line, it.column) for it in messages if it.kind == "possible error"][:most]
-        numbers = {int(number) for number in NUMBER.findall(source + (bytes_of(certificate) or b""))}
-        knowledge = Knowledge(asker, source.decode(pascal.ENCODING), certificate, numbers)
+        claims = bytes_of(files.certificate) if files.certificate else None
+        numbers = {int(number) for number in NUMBER.findall(source + (claims or b""))}
+        knowledge = Knowledge(asker, source.decode(pascal.ENCODING), given, numbers)
         known = knowledge.ranges(places)
         return {place: [knowledge.words(*one) for one in ranges] for place, ranges in zip(places, known)}
 
@@ -69,10 +71,10 @@ class Range(NamedTuple):
 
 
 class Knowledge:
-    """Finds out what is known in a source under a certificate."""
+    """Finds out what is known in a source under the words that give it a certificate, or under none."""
 
-    def __init__(self, asker, text, certificate, numbers):
-        self.asker, self.certificate = asker, certificate
+    def __init__(self, asker, text, given, numbers):
+        self.asker, self.given = asker, given
         self.text = text
         self.tokens = pascal.tokens_of(text)
         self.statements = pascal.Statements(self.tokens)
@@ -155,7 +157,7 @@ class Knowledge:
         questions = [Question(name, operand_of(name).statement, lines) for name, lines in conditions.items()]
         beside = Beside(self.text, self.tokens, questions)
         told = {}
-        for message in self.asker.messages(beside.text.encode(pascal.ENCODING), "--cert", self.certificate):
+        for message in self.asker.messages(beside.text.encode(pascal.ENCODING), *self.given):
             name, line = beside.lines.get(message.line, (None, 0))
             if message.kind != "possible error":
                 return {}, name or message

@@ -13,7 +13,7 @@ PROGRAM = os.environ["PCOM"]
 SOURCE = "program p(output); begin writeln(1: 1) end.\n"
 OPEN = "program q(output); var i: integer; begin write(i) end.\n"
 TOLD = "1:48: possible error: undefined variable\n1:48: error: undefined variable\n"
-CERT = "pcert 2\n"
+CERT = "pcert 3\n"
 SECONDS = 60
 
 

@@ -143,9 +143,9 @@ class Known(unittest.TestCase):
         """What is known at all sites of a source: the text, and each operand with its range."""
         with Asker() as asker, open(path, "rb") as file:
             text = file.read().decode(pascal.ENCODING)
-            messages = asker.run(["--write-cert", asker.path("certificate"), path])
+            messages = asker.run([path])
             places = [(one.line, one.column) for one in messages if one.kind == "possible error"]
-            knowledge = Knowledge(asker, text, asker.path("certificate"), set())
+            knowledge = Knowledge(asker, text, [], set())
             return text, [one for known in knowledge.ranges(places) for one in known]
 
     def assert_just(self, path):

@@ -220,7 +220,7 @@ class Browser(PageCase):
         )
         self.assertTrue(self.text_of("#told").startswith("14:3: possible error: case"))
         self.assertIn("29:18: possible error: overflow", self.text_of("#told"))
-        self.assertTrue(self.text_of("#certificate").startswith("pcert 2\n"))
+        self.assertTrue(self.text_of("#certificate").startswith("pcert 3\n"))
         with open(os.path.join(PAGE, "about.json"), encoding="utf-8") as file:
             self.assertEqual(self.text_of("#about"), json.load(file)["words"])
         self.assertEqual(self.text_of("mark.told"), "case|+")

@@ -80,11 +80,8 @@ fn settled(
         × (are_in_order found.certificate.version (contents found.certificate) ≡ true)
         × IfSome found.verdict (IsVerdict tree.now found.certificate))) }
 {
-    let text = write(alloc, certificate)?;
-    let certificate = match read(alloc, &text) {
-        Ok(certificate) => certificate,
-        Err(ReadFault::Memory(refused)) => return Err(refused.into()),
-        Err(_) => return Ok(Err(None)),
+    let Some(certificate) = reread(alloc, certificate)? else {
+        return Ok(Err(None));
     };
     match check(alloc, tree, &certificate) {
         Ok(verdict) => Ok(Ok(Found {
@@ -94,6 +91,25 @@ fn settled(
         Err(CheckFault::Memory(refused)) => Err(refused.into()),
         Err(CheckFault::Broken { place, .. }) => Ok(Err(spot_at(alloc, tree, place)?)),
         Err(_) => Ok(Err(None)),
+    }
+}
+
+/// A certificate as it is read from its spelling, if it can be.
+///
+/// # Errors
+/// No memory.
+pub(crate) fn reread(
+    alloc: Global,
+    certificate: &Certificate,
+) -> Result<Option<Certificate>, AllocError>
+    ensures { IfOk result (λ read. IfSome read (λ certificate.
+        are_in_order certificate.version (contents certificate) ≡ true)) }
+{
+    let text = write(alloc, certificate)?;
+    match read(alloc, &text) {
+        Ok(certificate) => Ok(Some(certificate)),
+        Err(ReadFault::Memory(refused)) => Err(refused.into()),
+        Err(_) => Ok(None),
     }
 }
 
@@ -146,8 +162,8 @@ fn thin(facts: &mut Vec<Fact>, told: Option<Spot>, spot: Spot) {
     }
 }
 
-// Kinds of facts, by how much rests on them.
-fn strength(fact: &Fact) -> u8 {
+/// Kinds of facts, by how much rests on them: from 0 to 4.
+pub(crate) fn strength(fact: &Fact) -> u8 {
     match fact {
         Fact::Order { .. } => 0,
         Fact::Grows { .. } => 1,

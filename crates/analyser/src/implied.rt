@@ -35,21 +35,21 @@ fn says(rows: &Rows, fact: &Fact, other: &Fact) -> bool {
                 path: part,
                 spans: others,
             },
-        ) => { leads_to(path, part) && have(rows, path, *spans, part, *others) }
+        ) => { leads_to(path, part) && have(rows, path, *spans, *others) }
         _ => false,
     }
 }
 
-// Whether what lies in spans of what a path leads to has what lies in spans of a part of that.
-fn have(rows: &Rows, path: &Path, spans: Spans, part: &Path, others: Spans) -> bool {
+// Whether what lies in spans of what a path leads to has what lies in spans of a part of that: the spans of both are of
+// the first indexes on the way from the variable.
+fn have(rows: &Rows, path: &Path, spans: Spans, others: Spans) -> bool {
     match (spans, others) {
         (Spans::None, _) => true,
         (Spans::One(span), Spans::One(other) | Spans::Two(other, _)) => {
-            leads_to(part, path) && (has(span, other) || is_all(rows, path, span.first, span.last))
+            has(span, other) || is_all(rows, path, span.first, span.last)
         }
-        (Spans::Two(span, inner), Spans::Two(other, within)) => {
-            leads_to(part, path) && has(span, other) && has(inner, within)
-        }
+        (Spans::Two(span, inner), Spans::Two(other, within)) => has(span, other)
+            && has(inner, within),
         (Spans::One(_) | Spans::Two(_, _), _) => false,
     }
 }

@@ -16,6 +16,8 @@ mod outcome;
 mod rounds;
 mod statements;
 mod tally;
+pub mod trimming;
+mod verdicts;
 mod ways;
 
 pub use crate::accepting::Found;

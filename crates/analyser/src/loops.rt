@@ -78,7 +78,7 @@ impl<'a> Analysis<'a> {
     pub(crate) fn for_loop(&mut self, one: &Stmt, head: &ForHead, left: u32, visits: &mut Tally) {
         let from = self.value(&head.first.value, left, visits);
         let to = self.value(&head.last.value, left, visits);
-        let way = Way::of(self.state().table(), head, from, to);
+        let way = Way::of(self.state().rules(), self.state().table(), head, from, to);
         let mark = self.mark();
         let steady = self.begin_turns(head.loop_number, &way);
         self.turns(one, &Some(steady), left, visits);

@@ -1,6 +1,6 @@
 //! What may hold in a block, told by the names of those that call it and that it calls.
 
-use crate::claim::{End, MANY, add_all, by_name};
+use crate::claim::{End, Line, MANY, add_all, by_name};
 use crate::claims::entire;
 use crate::{Array, Claim, Event, Program, array_accessed, naming, number_of, row};
 use checker_calls::is_visible;
@@ -196,9 +196,12 @@ impl<'p, 't> Program<'p, 't> {
             Passed::Whole { .. } => None,
             Passed::Reference { access, .. } if self.rows.is_structured_variable(formal) => {
                 let rows = self.rows.of_variable(formal);
-                let (root, row) = (formal, rows.first);
+                let whole = Array {
+                    row: rows.first,
+                    ..Array::of(formal)
+                };
                 let actual = array_accessed(self.rows, access, 0)?;
-                Some(Name::Variable(Array { root, row }, actual, rows.count))
+                Some(Name::Variable(whole, actual, rows.count))
             }
             Passed::Reference { access, .. } => {
                 Some(Name::Value(one, End::variable(entire(access)?)))
@@ -225,13 +228,21 @@ impl Name {
     }
 }
 
+fn line_renamed(names: &[Name], line: Line) -> Line {
+    match line {
+        Line::All => Line::All,
+        Line::Row(end) => Line::Row(end_renamed(names, end)),
+        Line::Column(end) => Line::Column(end_renamed(names, end)),
+    }
+}
+
 fn renamed(names: &[Name], claim: Claim) -> Option<Claim> {
     let renamed = |end| end_renamed(names, end);
     match claim {
-        Claim::Defined(array, inner, first, last) => {
+        Claim::Defined(array, line, first, last) => {
             let array = array_renamed(names, array);
-            let inner = inner.map(|(low, high)| (renamed(low), renamed(high)));
-            Some(Claim::Defined(array, inner, renamed(first), renamed(last)))
+            let line = line_renamed(names, line);
+            Some(Claim::Defined(array, line, renamed(first), renamed(last)))
         }
         Claim::Order(root, other, least) => {
             let one = renamed(End::variable(root));
@@ -251,8 +262,11 @@ fn array_renamed(names: &[Name], array: Array) -> Array {
             && let Some(by) = array.row.checked_sub(from.row)
             && by < *rows
         {
-            let row = to.row.saturating_add(by);
-            return Array { root: to.root, row };
+            return Array {
+                root: to.root,
+                row: to.row.saturating_add(by),
+                is_part: array.is_part,
+            };
         }
     }
     array

@@ -2,12 +2,13 @@ use crate::{Array, Memory, Program};
 use certificate::Fact;
 use checker_rows::Rows;
 use checker_state::{Bound, bound_form};
+use domain::Version;
 use domain::facts::{self, Spans};
 use std::mem;
 use typed_tree::Expr;
 
-/// How many stretches of one array are proposed in a block at most, how many of its rows, and how many orders of one
-/// variable.
+/// How many stretches of one array are proposed in a block at most, how many of its rows and of its columns, and how
+/// many orders of one variable.
 const MOST_OF_VARIABLE: usize = 24;
 
 /// How many claims that name a variable count where it is changed or mentioned.
@@ -29,7 +30,7 @@ pub struct End {
 impl End {
     /// The bound that an expression is, if it is one.
     pub(crate) fn of(rows: &Rows, expression: &Expr) -> Option<End> {
-        let bound = bound_form(rows, expression)?;
+        let bound = bound_form(Version::Three, rows, expression)?;
         Some(End {
             root: bound.root,
             number: i64::from(bound.number),
@@ -64,25 +65,42 @@ impl End {
     }
 }
 
+/// Which elements of an array: all by their first index, or those of a matrix in one row by the second, or those in one
+/// column by the first.
+#[derive(Clone, Copy, PartialEq, Eq, PartialOrd, Ord)]
+pub enum Line {
+    All,
+    Row(End),
+    Column(End),
+}
+
+impl Line {
+    fn end(self) -> Option<End> {
+        match self {
+            Line::All => None,
+            Line::Row(end) | Line::Column(end) => Some(end),
+        }
+    }
+}
+
 /// What may hold of variables.
 #[derive(Clone, Copy, PartialEq, Eq, PartialOrd, Ord)]
 pub enum Claim {
-    /// The elements of an array from one end to another are defined, or of a matrix only those whose second index lies
-    /// between two other ends, which come first.
-    Defined(Array, Option<(End, End)>, End, End),
+    /// Elements of an array from one end to another are defined.
+    Defined(Array, Line, End, End),
     /// The value of one variable is at most that of another plus a number, from this on.
     Order(u32, u32, i64),
 }
 
 impl Claim {
     /// The variables that it names.
-    pub fn roots(&self) -> [Option<u32>; 5] {
+    pub fn roots(&self) -> [Option<u32>; 4] {
         match self {
-            Claim::Defined(array, inner, first, last) => {
-                let (low, high) = inner.map_or((None, None), |(low, high)| (low.root, high.root));
-                [Some(array.root), first.root, last.root, low, high]
+            Claim::Defined(array, line, first, last) => {
+                let other = line.end().and_then(|end| end.root);
+                [Some(array.root), first.root, last.root, other]
             }
-            Claim::Order(root, other, _) => [Some(*root), Some(*other), None, None, None],
+            Claim::Order(root, other, _) => [Some(*root), Some(*other), None, None],
         }
     }
 
@@ -99,14 +117,16 @@ impl Claim {
     /// It as certificates tell it, if they have its numbers. An order begins below the least number that is told of it.
     pub fn fact(&self, program: &Program) -> Option<Fact> {
         match self {
-            Claim::Defined(array, inner, first, last) => {
+            Claim::Defined(array, line, first, last) => {
                 let types = &program.tree.types;
-                let mut parts = program.parts(array.root).iter();
+                // What lies deepest comes last.
+                let mut parts = program.parts(array.root).iter().rev();
                 let part = parts.find(|part| part.is_array(types, *array))?;
                 let span = said_span(*first, *last)?;
-                let spans = match inner {
-                    None => Spans::One(span),
-                    Some((low, high)) => Spans::Two(span, said_span(*low, *high)?),
+                let spans = match line {
+                    Line::All => Spans::One(span),
+                    Line::Row(row) => Spans::Two(said_span(*row, *row)?, span),
+                    Line::Column(column) => Spans::Two(span, said_span(*column, *column)?),
                 };
                 let path = part.path(&program.memory);
                 Some(Fact::Defined { path, spans })
@@ -119,11 +139,13 @@ impl Claim {
         }
     }
 
-    // Of what it is, of rows of a matrix last: claims ascend by that.
-    fn subject(&self) -> (bool, u32, usize, bool) {
+    // Of what it is, of columns of a matrix last: claims ascend by that.
+    fn subject(&self) -> (bool, Array, u8) {
         match self {
-            Claim::Defined(array, inner, ..) => (false, array.root, array.row, inner.is_some()),
-            Claim::Order(root, ..) => (true, *root, 0, false),
+            Claim::Defined(array, Line::All, ..) => (false, *array, 0),
+            Claim::Defined(array, Line::Row(_), ..) => (false, *array, 1),
+            Claim::Defined(array, Line::Column(_), ..) => (false, *array, 2),
+            Claim::Order(root, ..) => (true, Array::of(*root), 0),
         }
     }
 

@@ -1,7 +1,7 @@
 //! What may hold of the variables of a block, by what stands in it.
 
-use crate::claim::{End, MANY, add_all};
-use crate::{Array, Claim, Event, Memory, Program, array_accessed, row};
+use crate::claim::{End, Line, MANY, add_all};
+use crate::{Array, Claim, Event, Memory, Program, array_accessed, part_accessed, row};
 use checker_rows::{Rows, limits};
 use domain::Interval;
 use typed_tree::{Access, Base, Direction, Dyadic, Expr, ForHead};
@@ -42,12 +42,12 @@ struct Turns<'t> {
     head: Option<&'t ForHead>,
 }
 
-/// An element gets a value, or a part of it, by an event in a loop: of an array, or of the row of a matrix at an end. A
-/// variable plus a number selects it.
+/// An element gets a value, or a part of it, by an event in a loop: of an array, or of a line of a matrix. A variable
+/// plus a number selects it.
 #[derive(Clone, Copy)]
 struct Store {
     array: Array,
-    row: Option<End>,
+    line: Line,
     root: u32,
     by: i64,
     place: usize,
@@ -73,17 +73,14 @@ impl Store {
     fn stretch(&self, step: i64, from: End, to: End) -> Claim {
         let (from, to) = (from.moved(self.by), to.moved(self.by));
         let (first, last) = if step > 0 { (from, to) } else { (to, from) };
-        match self.row {
-            None => Claim::Defined(self.array, None, first, last),
-            Some(row) => Claim::Defined(self.array, Some((first, last)), row, row),
-        }
+        Claim::Defined(self.array, self.line, first, last)
     }
 
     // The values of the index.
     fn values(&self, rows: &Rows) -> Option<Interval> {
-        let index = match self.row {
-            None => rows.index(self.array.row),
-            Some(_) => rows.inner(self.array.row),
+        let index = match self.line {
+            Line::Row(_) => rows.inner(self.array.row),
+            Line::All | Line::Column(_) => rows.index(self.array.row),
         };
         Some(limits(index?))
     }
@@ -180,7 +177,7 @@ impl<'p, 't> Program<'p, 't> {
                 && let Some((_, last)) = run.last()
             {
                 let (first, last) = (End::constant(*first), End::constant(*last));
-                memory.push(&mut found, Claim::Defined(*array, None, first, last));
+                memory.push(&mut found, Claim::Defined(*array, Line::All, first, last));
             }
         }
         add_all(memory, &mut claims, &mut found, 0);
@@ -262,39 +259,47 @@ impl<'p, 't> Program<'p, 't> {
         self.memory.push(&mut deeds.of_variables, Deed { key, end });
     }
 
-    // An element gets a value perhaps.
+    // An element gets a value perhaps, or a part of it.
     fn see_store(&self, access: &Access, indexes: &[Expr], deeds: &mut Deeds) {
+        if let Some(array) = part_accessed(self.rows, access)
+            && let Some(index) = indexes.last()
+        {
+            self.see_index(array, Line::All, index, deeds);
+        }
         if let Some(array) = array_accessed(self.rows, access, 1)
             && let Some(index) = indexes.last()
         {
-            self.see_index(array, None, index, deeds);
+            self.see_index(array, Line::All, index, deeds);
         }
         if let Some(array) = array_accessed(self.rows, access, 2)
             && let [.., row, index] = indexes
         {
-            self.see_index(array, None, row, deeds);
-            if let Some(row) = End::of(self.rows, row) {
-                self.see_index(array, Some(row), index, deeds);
+            self.see_index(array, Line::All, row, deeds);
+            if let Some(end) = End::of(self.rows, row) {
+                self.see_index(array, Line::Row(end), index, deeds);
+            }
+            if let Some(end) = End::of(self.rows, index) {
+                self.see_index(array, Line::Column(end), row, deeds);
             }
         }
     }
 
     // An element gets a value at an index, or a part of the element.
-    fn see_index(&self, array: Array, row: Option<End>, index: &Expr, deeds: &mut Deeds) {
+    fn see_index(&self, array: Array, line: Line, index: &Expr, deeds: &mut Deeds) {
         let Some(End { root, number: by }) = End::of(self.rows, index) else {
             return;
         };
         if let Some(root) = root {
             let store = Store {
                 array,
-                row,
+                line,
                 root,
                 by,
                 place: deeds.place,
                 inside: deeds.inside,
             };
             self.memory.push(&mut deeds.stores, store);
-        } else if row.is_none() {
+        } else if line == Line::All {
             self.memory.push(&mut deeds.at_constants, (array, by));
         }
     }

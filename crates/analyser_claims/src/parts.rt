@@ -16,11 +16,24 @@ pub struct Part {
     first: usize,
 }
 
-/// An array, or what is passed for one, to which no index leads, by the first row under it.
+/// An array, or what is passed for one, to which no index leads, by the first row under it; or a part of each of its
+/// elements.
 #[derive(Clone, Copy, PartialEq, Eq, PartialOrd, Ord)]
 pub struct Array {
     pub(crate) root: u32,
     pub(crate) row: usize,
+    pub(crate) is_part: bool,
+}
+
+impl Array {
+    /// A variable, by the first row under it, which has the number 0 here.
+    pub(crate) fn of(root: u32) -> Array {
+        Array {
+            root,
+            row: 0,
+            is_part: false,
+        }
+    }
 }
 
 impl Part {
@@ -56,9 +69,20 @@ impl Part {
         !steps.any(|step| matches!(step, Step::Element))
     }
 
-    /// Whether it is an array.
+    /// Whether it is an array, or it or something that it lies in is this part of the elements of one.
     pub(crate) fn is_array(&self, types: &TypeTable, array: Array) -> bool {
-        self.first == array.row && self.is_direct() && types.element(self.type_id).is_some()
+        self.first == array.row
+            && if array.is_part {
+                self.elements() == 1
+            } else {
+                self.is_direct() && types.element(self.type_id).is_some()
+            }
+    }
+
+    // How many steps lead to elements.
+    fn elements(&self) -> usize {
+        let steps = self.path.steps.iter();
+        steps.filter(|step| matches!(step, Step::Element)).count()
     }
 
     // The steps to its elements or its fields.
@@ -140,5 +164,21 @@ pub(crate) fn array_accessed(rows: &Rows, access: &Access, indexes: usize) -> Op
     (goes_on && is_direct).then_some(Array {
         root: access.root,
         row: rows.accessed(access).first,
+        is_part: false,
+    })
+}
+
+/// A part of an element of an array, to which one index leads.
+pub(crate) fn part_accessed(rows: &Rows, access: &Access) -> Option<Array> {
+    let mut selectors = access.selectors.iter();
+    let is_behind = matches!(selectors.next_back(), Some(Selector::Field { .. }));
+    let elements = selectors
+        .filter(|selector| matches!(selector, Selector::Element { .. }))
+        .count();
+    let is_variable = matches!(access.base, Base::Variable);
+    (is_behind && elements == 1 && is_variable).then_some(Array {
+        root: access.root,
+        row: rows.accessed(access).first,
+        is_part: true,
     })
 }

@@ -146,7 +146,7 @@ pub(crate) fn frame(
         }
     }
     Certificate {
-        version: Version::Two,
+        version: Version::Three,
         sections,
     }
 }

@@ -4,6 +4,7 @@ use analyser_claims::{Event, Program};
 use analyser_tables::Ladders;
 use checker_rows::{Rows, Span};
 use checker_state::bound_form;
+use domain::Version;
 use typed_tree::{Dyadic, Expr, Link, Passed, RangeTest, Selector, Whole};
 use types::OrdinalRange;
 
@@ -77,7 +78,7 @@ fn spelled(rows: &Rows, value: &Expr) -> Option<Spelling> {
     if let Expr::Variable { access, .. } = value {
         return Some(Spelling::Moved(rows.accessed(access).first, 0));
     }
-    let bound = bound_form(rows, value)?;
+    let bound = bound_form(Version::Three, rows, value)?;
     let number = i64::from(bound.number);
     Some(match bound.root {
         None => Spelling::Constant(number),

@@ -15,6 +15,13 @@ const FREE_MOVES: u8 = 3;
 /// How often it moves to steps of a ladder behind that. Then it goes to the last number that it may be.
 const LADDER_MOVES: u8 = 8;
 
+/// Where so many turns moved what is known, ranges that none moved go on to their next steps, and growths that add
+/// nothing yet are taken to add up to 1.
+const MANY_TURNS: u32 = 9;
+
+/// Where so many did, ranges that none moved go on to all values.
+const MOST_TURNS: u32 = 24;
+
 /// How often the number of an order goes to the least that is given. Then it skips those that are less than -1.
 const ORDER_MOVES: u8 = 3;
 
@@ -30,6 +37,8 @@ const NUMBERS: u32 = 64;
 pub struct Table {
     /// Whether a state came to the place.
     pub is_reached: bool,
+    // How many turns moved what is known here.
+    turns: u32,
     /// How many turns are finished at most, if it is the head of a for, where that was last walked.
     pub most: i64,
     // Of each fact what stands beside it, in the order of the facts.
@@ -74,6 +83,7 @@ impl Table {
         };
         Ok(Table {
             is_reached: false,
+            turns: 0,
             most: 0,
             beside: Vec::from_elem(alloc, none, facts)?,
         })
@@ -106,7 +116,25 @@ impl Table {
                 }
             }
         }
+        if has_moved && pace.counts && matches!(coming, Coming::Here(_)) {
+            self.turned(facts, &pace);
+        }
         has_moved
+    }
+
+    // A turn moved what is known here. Where many did, nothing waits any longer for what moves it.
+    fn turned(&mut self, facts: &mut [Fact], pace: &Pace) {
+        self.turns = self.turns.saturating_add(1);
+        if self.turns != MANY_TURNS && self.turns != MOST_TURNS {
+            return;
+        }
+        for (place, beside) in self.beside.iter_mut().enumerate() {
+            if let Some(fact) = facts.get_mut(place)
+                && beside.is_still()
+            {
+                pace.hurry(fact, beside, self.turns);
+            }
+        }
     }
 
     // A state comes in a round that narrows: nothing moves yet.
@@ -143,6 +171,17 @@ impl Table {
 }
 
 impl Beside {
+    // Whether nothing that counts moved the fact.
+    fn is_still(&self) -> bool {
+        self.first_moves == 0 && self.last_moves == 0
+    }
+
+    // Both ends moved to a step.
+    fn leap(&mut self) {
+        self.first_moves = FREE_MOVES + 1;
+        self.last_moves = FREE_MOVES + 1;
+    }
+
     // A range comes in a round that narrows.
     fn come(&mut self, came: Interval) {
         self.collected = self.collected.join(&came);
@@ -262,6 +301,39 @@ impl<'p, 'a> Pace<'p, 'a> {
             last = self.end(&mut beside.last_moves, came, step, limit);
         }
         limits.at_least(first).at_most(last)
+    }
+
+    // Goes on with a fact that none of so many turns moved, though they moved others.
+    fn hurry(&self, fact: &mut Fact, beside: &mut Beside, turns: u32) {
+        match fact {
+            Fact::Range { path, range } if !range.is_empty() => {
+                let beyond = self.beyond(path, *range, turns == MOST_TURNS);
+                if !beyond.leq(range) {
+                    beside.leap();
+                    *range = beyond;
+                }
+            }
+            Fact::Grows { growth, .. } => {
+                beside.first_moves = 1;
+                growth.last_step = 1;
+            }
+            _ => {}
+        }
+    }
+
+    // From the next step below a range to the next one above it, where there are any; or all values.
+    fn beyond(&self, path: &Path, range: Interval, is_last: bool) -> Interval {
+        let row = rows_named(self.rows, path).first;
+        let limits = self.rows.row_limits(row);
+        if is_last {
+            return limits;
+        }
+        let (first, last) = (range.first(), range.last());
+        let below = self.ladders.below(row, first.saturating_sub(1));
+        let above = self.ladders.above(row, last.saturating_add(1));
+        limits
+            .at_least(below.unwrap_or(first))
+            .at_most(above.unwrap_or(last))
     }
 
     // Where an end goes that moves: to what comes, to the step of the ladder there, or to the last that it may be.

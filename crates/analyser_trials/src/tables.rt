@@ -296,7 +296,7 @@ fn row_told(alloc: Global, row: &Row) -> Result<String, AllocError> {
 }
 
 /// A range that has all values of its type stays, and may get narrower.
-static PLACES: [(Row, &str); 41] = [
+static PLACES: [(Row, &str); 43] = [
     // The first state; three moves are free, and two that don't count.
     ((&[Range(0)], &[], &[Values(0, &[5])]), " 5..5"),
     ((&[Range(0)], &[10], &[Values(0, &[0, 1, 2, 3])]), " 0..3"),
@@ -374,6 +374,28 @@ static PLACES: [(Row, &str); 41] = [
             &[Values(0, &[0, 1, 2, 3, 4, -1, -2, -3, -4])],
         ),
         " -2147483647..2147483647",
+    ),
+    // Where nine turns moved another variable, each end goes on to its next step, if it has one.
+    (
+        (
+            &[Range(0), Range(1)],
+            &[100],
+            &[
+                Between(0, 0, 0),
+                Values(1, &[0, 1, 2, 3, 4, -1, -2, -3]),
+                Comes,
+                Values(1, &[-4]),
+            ],
+        ),
+        "- 0..100 -2147483647..2147483647",
+    ),
+    (
+        (
+            &[Range(0), Range(1)],
+            &[100],
+            &[Between(0, 0, 0), Values(1, &[0, 1, 2, 3, 4, -1, -2, -3])],
+        ),
+        " 0..0 -3..2147483647",
     ),
     ((&[Range(2)], &[], &[Values(2, &[1])]), " 1..1"),
     ((&[Range(2)], &[], &[Values(2, &[1, 0])]), " 0..1"),

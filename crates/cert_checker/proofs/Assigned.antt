@@ -133,7 +133,8 @@ module _ (place : SourcePlace) (access : Access) (reach : Reach) where
 
 -- what is accessed gets the value of an expression, by the form that this has in the program
 pub value-goes : (assignment : Assignment) (reach : Reach) (notes : List Noted) (passed : Known) (tree : Tree) (form : Option Bound) (step : Option Interval)
-    (range : Interval) {old new : Walk} → tree ≡ old.flow.state.table.now → form ≡ bound_form (is_ordinal_variable tree) assignment.value
+    (range : Interval) {old new : Walk} → tree ≡ old.flow.state.table.now
+    → form ≡ bound_form (is_ordinal_variable tree) old.flow.grounds.version assignment.value
     → step ≡ value_step tree (root_of (origin_of assignment.target)) assignment.value notes → range ≡ known_range passed
     → WalkGoes (assign_to assignment.becomes (origin_of assignment.target) assignment.target.selectors.items reach form step range) old new tt
     → WalkGoes (assign_value assignment reach notes passed) old new tt
@@ -143,16 +144,17 @@ value-goes assignment reach notes passed tree form step range {old = old} tree_i
     assign_to assignment.becomes (origin_of assignment.target) assignment.target.selectors.items reach f s r in
     goes-here (stores form step range) (assign_value assignment reach notes passed)
     (ap₂ (λ (f : Option Bound) (r : Interval). stores f step r (context_of old) (state_of old.flow))
-    (form_is ∙ ap (λ (t : Tree). bound_form (is_ordinal_variable t) assignment.value) tree_is) range_is
+    (form_is ∙ ap (λ (t : Tree). bound_form (is_ordinal_variable t) old.flow.grounds.version assignment.value) tree_is) range_is
     ∙ ap (λ (s : Option Interval).
-    stores (bound_form (is_ordinal_variable old.flow.state.table.now) assignment.value) s (known_range passed) (context_of old) (state_of old.flow))
+    stores (bound_form (is_ordinal_variable old.flow.state.table.now) old.flow.grounds.version assignment.value) s (known_range passed) (context_of old)
+    (state_of old.flow))
     (step_is ∙ ap (λ (t : Tree). value_step t root assignment.value notes) tree_is)) one
 
 -- what is accessed gets any value of its type, at the point where it is read
 pub read-goes : (name place : SourcePlace) (one : ReadVariable) (tree : Tree) (selectors : List Selector) (reach held : Reach) (range : Interval)
     {old new : Walk}
     → tree ≡ old.flow.state.table.now → place ≡ point_place tree one.point name → selectors ≡ one.access.selectors.items
-    → held ≡ reach_stored selectors false reach → range ≡ limits_of one.range
+    → held ≡ reach_stored old.flow.grounds.version selectors false reach → range ≡ limits_of one.range
     → WalkGoes (assign_to place (origin_of one.access) one.access.selectors.items held None None range) old new tt → WalkGoes (read_value name one reach) old
     new tt
 read-goes name place one tree selectors reach held range {old = old} tree_is place_is selectors_are held_is range_is stores =
@@ -161,7 +163,8 @@ read-goes name place one tree selectors reach held range {old = old} tree_is pla
     let form = λ (p : SourcePlace) (r : Reach) (i : Interval).
     assign_to p (origin_of one.access) own r None None i (context_of old) (state_of old.flow) in
     let place_here : place ≡ point_place before one.point name = place_is ∙ ap (λ (t : Tree). point_place t one.point name) tree_is in
-    let held_here : held ≡ reach_stored own false reach = held_is ∙ ap (λ (s : List Selector). reach_stored s false reach) selectors_are in
+    let version = old.flow.grounds.version in
+    let held_here : held ≡ reach_stored version own false reach = held_is ∙ ap (λ (s : List Selector). reach_stored version s false reach) selectors_are in
     goes-here (assign_to place (origin_of one.access) own held None None range) (read_value name one reach)
     (ap (λ (p : SourcePlace). form p held range) place_here
     ∙ ap₂ (λ (r : Reach) (i : Interval). form (point_place before one.point name) r i) held_here range_is) stores
@@ -209,7 +212,7 @@ pub assignment-goes : (assignment : Assignment) (indexes : List Expr) (selectors
     {old reached valued tested new : Walk}
     → indexes ≡ assignment.indexes.items → WalkGoes (access_walk assignment.target (index_pieces indexes)) old reached reach
     → WalkGoes (assigned_walk assignment.value) reached valued told → WalkGoes (fitting assignment.fits told.known) valued tested passed
-    → selectors ≡ assignment.target.selectors.items → held ≡ reach_stored selectors (holds_call assignment.value) reach
+    → selectors ≡ assignment.target.selectors.items → held ≡ reach_stored tested.flow.grounds.version selectors (holds_call assignment.value) reach
     → WalkGoes (assign_value assignment held told.noted passed) tested new tt
     → WalkGoes (from_entry assignment.number (assignment_walk assignment)) old new tt
 assignment-goes assignment indexes _ reach held told passed {old = old} {tested = tested} {new = new} indexes_are accessed valued fits selectors_are
@@ -217,11 +220,13 @@ assignment-goes assignment indexes _ reach held told passed {old = old} {tested 
     let target = assignment.target in
     let own = target.selectors.items in
     let store : Reach → List Noted → Known → Walking (Unit {0}) =
-    λ reach notes passed. assign_value assignment (reach_stored own (holds_call assignment.value) reach) notes passed in
-    let same : held ≡ reach_stored own (holds_call assignment.value) reach =
-    held_is ∙ ap (λ (s : List Selector). reach_stored s (holds_call assignment.value) reach) selectors_are in
+    λ reach notes passed context. assign_value assignment (reach_stored context.version own (holds_call assignment.value) reach) notes passed context in
+    let version = tested.flow.grounds.version in
+    let same : held ≡ reach_stored version own (holds_call assignment.value) reach =
+    held_is ∙ ap (λ (s : List Selector). reach_stored version s (holds_call assignment.value) reach) selectors_are in
     let stored : WalkGoes (store reach told.noted passed) tested new tt =
-    subst (λ (r : Reach). WalkGoes (assign_value assignment r told.noted passed) tested new tt) same stores in
+    goes-here (assign_value assignment held told.noted passed) (store reach told.noted passed)
+    (ap (λ (r : Reach). assign_value assignment r told.noted passed (context_of tested) (state_of tested.flow)) same) stores in
     let from_access : List Expr → Walking (Unit {0}) =
     λ some. access_walk target (index_pieces some)
     >>= λ reach. assigned_walk assignment.value >>= λ told. fitting assignment.fits told.known >>= store reach told.noted in
@@ -240,7 +245,7 @@ pub copying-goes : (copying : Copying) (indexes more : List Expr) (selectors : L
     → indexes ≡ copying.indexes.items → WalkGoes (access_walk copying.target (index_pieces indexes)) old reached reach
     → more ≡ copying.value_indexes.items → WalkGoes (whole_walk copying.value (index_pieces more)) reached valued ranges
     → selectors ≡ copying.target.selectors.items → hold ≡ whole_holds_call copying.value copying.value_indexes.items
-    → held ≡ reach_stored selectors hold reach
+    → held ≡ reach_stored valued.flow.grounds.version selectors hold reach
     → WalkGoes (copy_to copying.becomes (origin_of copying.target) copying.target.selectors.items held ranges) valued new tt
     → WalkGoes (from_entry copying.number (copying_walk copying)) old new tt
 copying-goes copying indexes more _ hold reach held ranges {old = old} {valued = valued} {new = new} indexes_are accessed more_are whole selectors_are
@@ -248,12 +253,14 @@ copying-goes copying indexes more _ hold reach held ranges {old = old} {valued =
     let target = copying.target in
     let own = target.selectors.items in
     let store : Reach → List Interval → Walking (Unit {0}) =
-    λ reach ranges. copy_to copying.becomes (origin_of target) own
-    (reach_stored own (whole_holds_call copying.value copying.value_indexes.items) reach) ranges in
-    let same : held ≡ reach_stored own (whole_holds_call copying.value copying.value_indexes.items) reach =
-    held_is ∙ ap₂ (λ (s : List Selector) (h : Bool). reach_stored s h reach) selectors_are hold_is in
+    λ reach ranges context. copy_to copying.becomes (origin_of target) own
+    (reach_stored context.version own (whole_holds_call copying.value copying.value_indexes.items) reach) ranges context in
+    let version = valued.flow.grounds.version in
+    let same : held ≡ reach_stored version own (whole_holds_call copying.value copying.value_indexes.items) reach =
+    held_is ∙ ap₂ (λ (s : List Selector) (h : Bool). reach_stored version s h reach) selectors_are hold_is in
     let stored : WalkGoes (store reach ranges) valued new tt =
-    subst (λ (r : Reach). WalkGoes (copy_to copying.becomes (origin_of target) own r ranges) valued new tt) same stores in
+    goes-here (copy_to copying.becomes (origin_of target) own held ranges) (store reach ranges)
+    (ap (λ (r : Reach). copy_to copying.becomes (origin_of target) own r ranges (context_of valued) (state_of valued.flow)) same) stores in
     let from_access : List Expr → List Expr → Walking (Unit {0}) =
     λ some others. access_walk target (index_pieces some) >>= λ reach. whole_walk copying.value (index_pieces others) >>= store reach in
     goes-from_entry copying.number (copying_walk copying)

@@ -298,7 +298,7 @@ module _ (tree : Tree) (blocks : List BlockClaims) (declares : DeclareTheirs tre
           let own = and_parts (all_begin (map begins indexes) opened) (is_there opened (origin_of access)) begin in
           let both = yields-then context (flow.access_walk access (flow.index_pieces indexes)) (walk.read_value name one) tt yields in
           let may = may-assign context (walk.point_place context.tree one.point name) (origin_of access) selectors
-          (walk.reach_stored selectors false both.0) None None (limits_of one.range)
+          (walk.reach_stored context.version selectors false both.0) None None (limits_of one.range)
           (record { state = both.2.state; unbroken = both.2.unbroken; value_is = both.2.value_is }) in
           keeps-when at _ _ (access-kept tree blocks declares block at grounds calls leave opened places lie access indexes context both.0 stands own.0 both.1)
           (λ place given. keeps-then at _ _ (keeps-read_as at one.reads one.point)
@@ -324,16 +324,18 @@ module _ (tree : Tree) (blocks : List BlockClaims) (declares : DeclareTheirs tre
           let indexes = assignment.indexes.items in
           let fits = assignment.fits in
           let value = assignment.value in
-          let held = walk.reach_stored target.selectors.items (holds_call value) in
-          let assigned = λ (reach : Reach) (notes : List Noted) (passed : Known). walk.assign_value assignment (held reach) notes passed in
+          let held = λ (own : Context) (reach : Reach). walk.reach_stored own.version target.selectors.items (holds_call value) reach in
+          let assigned = λ (reach : Reach) (notes : List Noted) (passed : Known) (own : Context).
+          walk.assign_value assignment (held own reach) notes passed own in
           let there = and_parts (accesses_begin target indexes opened) (begins value opened) begin in
           let own = and_parts (all_begin (map begins indexes) opened) (is_there opened (origin_of target)) there.0 in
           let one = yields-then context (flow.access_walk target (flow.index_pieces indexes))
           (λ reach. flow.◌>>=◌ (assigned_walk value) (λ told. flow.◌>>=◌ (flow.fitting fits told.known) (assigned reach told.noted))) tt yields in
           let two = yields-then context (assigned_walk value) (λ told. flow.◌>>=◌ (flow.fitting fits told.known) (assigned one.0 told.noted)) tt one.2 in
           let three = yields-then context (flow.fitting fits two.0.known) (assigned one.0 two.0.noted) tt two.2 in
-          let may = may-assign context assignment.becomes (origin_of target) target.selectors.items (held one.0)
-          (bound_form (is_ordinal_variable context.tree) value) (value_step context.tree (root_of (origin_of target)) value two.0.noted) (known_range three.0)
+          let may = may-assign context assignment.becomes (origin_of target) target.selectors.items (held context one.0)
+          (bound_form (is_ordinal_variable context.tree) context.version value) (value_step context.tree (root_of (origin_of target)) value two.0.noted)
+          (known_range three.0)
           (record { state = three.2.state; unbroken = three.2.unbroken; value_is = three.2.value_is }) in
           keeps-when at _ _ (access-kept tree blocks declares block at grounds calls leave opened places lie target indexes context one.0 stands own.0 one.1)
           (λ place given. keeps-then at _ _ (keeps-value value context two.0.known stands there.1 (assigned-yields value context two.0 two.1))
@@ -351,15 +353,16 @@ module _ (tree : Tree) (blocks : List BlockClaims) (declares : DeclareTheirs tre
           let indexes = copying.indexes.items in
           let value = copying.value in
           let value_indexes = copying.value_indexes.items in
-          let held = walk.reach_stored target.selectors.items (whole_holds_call value value_indexes) in
-          let copied = λ (reach : Reach) (ranges : List Interval).
-          walk.copy_to copying.becomes (origin_of target) target.selectors.items (held reach) ranges in
+          let held = λ (own : Context) (reach : Reach). walk.reach_stored own.version target.selectors.items (whole_holds_call value value_indexes) reach in
+          let copied = λ (reach : Reach) (ranges : List Interval) (own : Context).
+          walk.copy_to copying.becomes (origin_of target) target.selectors.items (held own reach) ranges own in
           let there = and_parts (accesses_begin target indexes opened) (value_begins value value_indexes opened) begin in
           let own = and_parts (all_begin (map begins indexes) opened) (is_there opened (origin_of target)) there.0 in
           let one = yields-then context (flow.access_walk target (flow.index_pieces indexes))
           (λ reach. flow.◌>>=◌ (flow.whole_walk value (flow.index_pieces value_indexes)) (copied reach)) tt yields in
           let two = yields-then context (flow.whole_walk value (flow.index_pieces value_indexes)) (copied one.0) tt one.2 in
-          let may = may-copy context copying.becomes (origin_of target) target.selectors.items (held one.0) two.0 two.2 in
+          let may = may-copy context copying.becomes (origin_of target) target.selectors.items (held context one.0) two.0
+          (record { state = two.2.state; unbroken = two.2.unbroken; value_is = two.2.value_is }) in
           keeps-when at _ _ (access-kept tree blocks declares block at grounds calls leave opened places lie target indexes context one.0 stands own.0 one.1)
           (λ place given. keeps-then at _ _ (whole-kept tree blocks declares block at grounds calls leave opened places lie value value_indexes context two.0
           stands there.1
@@ -459,17 +462,17 @@ module _ (tree : Tree) (blocks : List BlockClaims) (declares : DeclareTheirs tre
           → IsOwn at (at.visible.variables head.control)
           → begins head.first.value opened ≡ true → begins head.last.value opened ≡ true → (context : Context) → In context
           → Yields context (flow.◌>>=◌ (value_walk head.first.value) (λ from. flow.◌>>=◌ (value_walk head.last.value) (λ to own.
-          walk.for_walk head walking (way_of (is_ordinal_variable own.tree) head from to) own))) tt
+          walk.for_walk head walking (way_of (is_ordinal_variable own.tree) own.version head from to) own))) tt
           → Keeps at (effect.◌>>=◌ (value_of head.first.value here) (λ a. effect.◌>>=◌ (value_of head.last.value here)
           (λ b. effect.◌>>=◌ (meaning.for_between head execution here (number_of a) (number_of b))
           (λ _. effect.undefine (at.visible.variables head.control)))))
       keeps-for head execution walking kept own first_begin last_begin context stands yields =
           let first = head.first.value in
           let last = head.last.value in
-          let whole = λ (from to : Known) (c : Context). walk.for_walk head walking (way_of (is_ordinal_variable c.tree) head from to) c in
+          let whole = λ (from to : Known) (c : Context). walk.for_walk head walking (way_of (is_ordinal_variable c.tree) c.version head from to) c in
           let one = yields-then context (value_walk first) (λ from. flow.◌>>=◌ (value_walk last) (whole from)) tt yields in
           let two = yields-then context (value_walk last) (whole one.0) tt one.2 in
-          let body = λ (from n : ℤ). kept-turns head (way_of (is_ordinal_variable context.tree) head one.0 two.0)
+          let body = λ (from n : ℤ). kept-turns head (way_of (is_ordinal_variable context.tree) context.version head one.0 two.0)
           (execution (meaning.for_turn head from here n)) walking (kept from n) context stands
           (record { state = two.2.state; unbroken = two.2.unbroken; value_is = two.2.value_is }) in
           keeps-then at _ _ (keeps-value first context one.0 stands first_begin one.1)
@@ -602,7 +605,7 @@ module _ (tree : Tree) (blocks : List BlockClaims) (declares : DeclareTheirs tre
           let walking = statement_walk body.value.0 in
           let there = and_parts (begins first.value opened) (begins last.value opened && begins_in body.value.0 opened) begin in
           let more_there = and_parts (begins last.value opened) (begins_in body.value.0 opened) there.1 in
-          let whole = λ (from to : Known) (c : Context). walk.for_walk head walking (way_of (is_ordinal_variable c.tree) head from to) c in
+          let whole = λ (from to : Known) (c : Context). walk.for_walk head walking (way_of (is_ordinal_variable c.tree) c.version head from to) c in
           let one = yields-then context (flow.enter head.number)
           (λ _. flow.◌>>=◌ (value_walk first.value) (λ from. flow.◌>>=◌ (value_walk last.value) (whole from))) tt yields in
           keeps-then at _ _ (keeps-enter at head.number at.visible)

@@ -59,7 +59,8 @@ use Rattle.checker_expressions.proofs.Entered.{Enters, access-entered, and_no_mo
 abbrev stores : Assignment → Reach → Valued → Walking (Unit {0})
 stores assignment reach told =
     fitting assignment.fits told.known
-    >>= assign_value assignment (reach_stored assignment.target.selectors.items (holds_call assignment.value) reach) told.noted
+    >>= λ passed context. assign_value assignment
+    (reach_stored context.version assignment.target.selectors.items (holds_call assignment.value) reach) told.noted passed context
 
 -- what enters nothing either way
 either-silent : (test : Bool) (one other : Walking (Unit {0})) → Enters one [] → Enters other [] → Enters (if test then one else other) []
@@ -76,8 +77,9 @@ stores-silent : (assignment : Assignment) (reach : Reach) (told : Valued) → En
 stores-silent assignment reach told context state =
     let target = assignment.target in
     let passed = fitting assignment.fits told.known context state in
-    assigned-silent assignment.becomes (origin_of target) target.selectors.items (reach_stored target.selectors.items (holds_call assignment.value) reach)
-    (bound_form (is_ordinal_variable context.tree) assignment.value)
+    assigned-silent assignment.becomes (origin_of target) target.selectors.items
+    (reach_stored context.version target.selectors.items (holds_call assignment.value) reach)
+    (bound_form (is_ordinal_variable context.tree) context.version assignment.value)
     (value_step context.tree (accesses.root_of (origin_of target)) assignment.value told.noted) (known_range passed.value) context passed.after
 
 -- walks one after another enter what each enters
@@ -114,8 +116,8 @@ read-entered name one context state =
     let reached = access_walk access (index_pieces one.indexes.items) context state in
     let rest = read_value name one reached.value context reached.after in
     and_no_more reached.linked rest.linked _ (access-entered access one.indexes.items context state)
-    (assigned-silent (point_place context.tree one.point name) (origin_of access) selectors (reach_stored selectors false reached.value) None None
-    (limits_of one.range) context reached.after)
+    (assigned-silent (point_place context.tree one.point name) (origin_of access) selectors
+    (reach_stored context.version selectors false reached.value) None None (limits_of one.range) context reached.after)
 
 -- a loop enters what a round of it does
 loop-entered : (number : ℕ) (place : Place) (control : Option ℕ) (round : Walking State) (numbers : List ℕ) → Enters round numbers
@@ -239,7 +241,7 @@ statement-parts (Repeat head statements) context state =
 statement-parts (For head body) context state =
     let from = value_walk head.first.value context state in
     let to = value_walk head.last.value context from.after in
-    let way = way_of (is_ordinal_variable context.tree) head from.value to.value in
+    let way = way_of (is_ordinal_variable context.tree) context.version head from.value to.value in
     let rest = for_walk head (statement_walk body.value.0) way context to.after in
     ap (λ numbers. head.number ∷ numbers)
     (and_then from.linked (to.linked ++ rest.linked) _ _ (value-entered head.first.value context state)

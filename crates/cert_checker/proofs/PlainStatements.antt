@@ -135,7 +135,8 @@ module _ (tree : Tree) (certificate : Certificate) (plain : IsPlain tree certifi
       let reached = access_walk one.access (index_pieces one.indexes.items) context state in
       let rest = read_value name one reached.value context reached.after in
       none-more reached.broken rest.broken (access-kept tree certificate plain block one.access one.indexes.items both.0 rounds wide state)
-      (assigned-kept (point_place tree one.point name) origin selectors (reach_stored selectors false reached.value) None None (limits_of one.range)
+      (assigned-kept (point_place tree one.point name) origin selectors (reach_stored context.version selectors false reached.value) None None
+      (limits_of one.range)
       (leads-seen (has_values outline.types one.range) origin selectors n leads.0) rounds wide reached.after)
 
   -- ---- loops
@@ -272,13 +273,13 @@ module _ (tree : Tree) (certificate : Certificate) (plain : IsPlain tree certifi
       let reached = access_walk target (index_pieces assignment.indexes.items) context state in
       let value = assigned_walk assignment.value context reached.after in
       let passed = fitting assignment.fits value.value.known context value.after in
-      let reach = reach_stored selectors (holds_call assignment.value) reached.value in
+      let reach = reach_stored context.version selectors (holds_call assignment.value) reached.value in
       let last = assign_value assignment reach value.value.noted passed.value context passed.after in
       none-more reached.broken (value.broken ++ last.broken)
       (access-kept tree certificate plain block target assignment.indexes.items one.0 rounds wide state)
       (none-more value.broken last.broken
       (assigned-breaks assignment.value context reached.after ∙ value-kept tree certificate plain block assignment.value three.0 rounds wide reached.after)
-      (assigned-kept assignment.becomes origin selectors reach (bound_form (is_ordinal_variable tree) assignment.value)
+      (assigned-kept assignment.becomes origin selectors reach (bound_form (is_ordinal_variable tree) context.version assignment.value)
       (value_step tree (root_of origin) assignment.value value.value.noted) (known_range passed.value)
       (leads-seen (is_scalar outline.types) origin selectors n two.0) rounds wide passed.after))
   parts-kept (Copy copying) well loops rounds wide state =
@@ -294,7 +295,7 @@ module _ (tree : Tree) (certificate : Certificate) (plain : IsPlain tree certifi
       let reached = access_walk target (index_pieces copying.indexes.items) context state in
       let value = whole_walk copying.value (index_pieces copying.value_indexes.items) context reached.after in
       let hold = whole_holds_call copying.value copying.value_indexes.items in
-      let last = copy_to copying.becomes origin selectors (reach_stored selectors hold reached.value) value.value context value.after in
+      let last = copy_to copying.becomes origin selectors (reach_stored context.version selectors hold reached.value) value.value context value.after in
       none-more reached.broken (value.broken ++ last.broken)
       (access-kept tree certificate plain block target copying.indexes.items one.0 rounds wide state)
       (none-more value.broken last.broken (whole-kept tree certificate plain block copying.value copying.value_indexes.items three.0 rounds wide reached.after)
@@ -353,7 +354,7 @@ module _ (tree : Tree) (certificate : Certificate) (plain : IsPlain tree certifi
       let four = and_parts _ (is_well_formed_stmt outline block body.value.0) three.1 in
       let from = value_walk head.first.value context state in
       let to = value_walk head.last.value context from.after in
-      let way = way_of (is_ordinal_variable tree) head from.value to.value in
+      let way = way_of (is_ordinal_variable tree) context.version head from.value to.value in
       let rest = for_walk head (statement_walk body.value.0) way context to.after in
       let told : LoopControls = record { own = Some head.control; inside = (inside_of body.value.0).controls } in
       none-more from.broken (to.broken ++ rest.broken) (value-kept tree certificate plain block head.first.value one.0 rounds wide state)

@@ -34,6 +34,9 @@ use Rattle.typed_tree.specs.declared.tree.Stmt.TheOpen.Stmt-F.{Assign}
 use Rattle.typed_tree.specs.declared.tree.Tree.{Tree}
 use Rattle.checker_state.specs.Bounds.{Bound}
 use Rattle.domain.specs.Interval.{Interval}
+use Rattle.domain.specs.declared.versions.Version.{Version}
+use Rattle.domain.specs.Versions.{has}
+use Rattle.domain.specs.declared.versions.Extension.TheVariants.{Boxes}
 use Rattle.meaning.specs.declared.value.Value.{Value}
 use Rattle.meaning.specs.Kinds.{IsOf}
 use Rattle.meaning.specs.Store.{Environment, Place as StorePlace, Store, part}
@@ -119,11 +122,21 @@ stored-reached env store own all way reach reached = by (is_some_index reach.ind
     by true = record { indexes = reached.indexes; all = λ is. absurd (false≢true is); none = reached.none }
     by false = reached
 
+-- in each version
+stored-version : (version : Version) (env : Environment) (store : Store) (own all : List Selector) (way : List Step) (reach : Reach)
+    → IsReachedBy env store all way reach → IsReachedBy env store all way (cond (has version Boxes) reach (reach_of_store own reach))
+stored-version version env store own all way reach reached = by (has version Boxes)
+  where
+    by : (boxes : Bool) → IsReachedBy env store all way (cond boxes reach (reach_of_store own reach))
+    by true = reached
+    by false = stored-reached env store own all way reach reached
+
 -- what is reached when a value was evaluated behind the access
-pub reached-then : (world : World) (block : ℕ) (env : Surroundings) (before after : Store) (origin : Origin) (selectors : List Selector) (reach : Reach)
-    (place : Option StorePlace) (hold : Bool) → (hold ≡ false → after ≡ before) → LeadsTo world block env origin selectors reach place before
-    → LeadsTo world block env origin selectors (reach_stored selectors hold reach) place after
-reached-then world block env before after origin selectors reach place hold stays leads_to =
+pub reached-then : (version : Version) (world : World) (block : ℕ) (env : Surroundings) (before after : Store) (origin : Origin)
+    (selectors : List Selector) (reach : Reach) (place : Option StorePlace) (hold : Bool) → (hold ≡ false → after ≡ before)
+    → LeadsTo world block env origin selectors reach place before
+    → LeadsTo world block env origin selectors (reach_stored version selectors hold reach) place after
+reached-then version world block env before after origin selectors reach place hold stays leads_to =
     let leads = leads_to.leads in
     record {
       leads = record {
@@ -132,7 +145,7 @@ reached-then world block env before after origin selectors reach place hold stay
         way = leads.way;
         place_is = leads.place_is;
         matches = leads.matches;
-        reached = stored-reached env.visible after selectors leads.all leads.way (reach_before hold reach) (by hold stays);
+        reached = stored-version version env.visible after selectors leads.all leads.way (reach_before hold reach) (by hold stays);
       };
       tests = leads_to.tests;
       typed = leads_to.typed;
@@ -324,16 +337,18 @@ module _ (world : World) (block : ℕ) (env : Surroundings) (records : List Open
     abbrev target_selectors : List Selector
     target_selectors = assignment.target.selectors.items
 
-    abbrev held : Reach → Reach
-    held = reach_stored target_selectors (holds_call assignment.value)
+    abbrev held : Version → Reach → Reach
+    held version = reach_stored version target_selectors (holds_call assignment.value)
 
     -- its form in the program
-    abbrev own_form : (ordinal : ℕ → Bool) → Option Bound
-    own_form ordinal = bound_form ordinal assignment.value
+    abbrev own_form : (ordinal : ℕ → Bool) → Version → Option Bound
+    own_form ordinal version = bound_form ordinal version assignment.value
 
     -- what the walk does with the value
     abbrev walked-store : Reach → Valued → Walking (Unit {0})
-    walked-store reach told = flow.◌>>=◌ (flow.fitting assignment.fits told.known) (walk.assign_value assignment (held reach) told.noted)
+    walked-store reach told =
+        flow.◌>>=◌ (flow.fitting assignment.fits told.known)
+        (λ passed context. walk.assign_value assignment (held context.version reach) told.noted passed context)
 
     -- its step in a program
     abbrev own_step : Tree → List Noted → Option Interval
@@ -343,8 +358,10 @@ module _ (world : World) (block : ℕ) (env : Surroundings) (records : List Open
     walked-value reach = flow.◌>>=◌ (assigned_walk assignment.value) (walked-store reach)
 
     module _ (reach : Reach) (place : Option StorePlace) where
-      test-sound : (store : Store) → LeadsTo world block env target_origin target_selectors (held reach) place store → (valued : Valued) (v : Value)
-          → IsKnown valued.known v → scalar_of valued.known ≡ assignment.fits.tests → IsOfForm (moment visible store) (own_form (ordinal_in world)) v
+      test-sound : (store : Store) → ((version : Version) → LeadsTo world block env target_origin target_selectors (held version reach) place store)
+          → (valued : Valued) (v : Value)
+          → IsKnown valued.known v → scalar_of valued.known ≡ assignment.fits.tests
+          → ((version : Version) → IsOfForm (moment visible store) (own_form (ordinal_in world) version) v)
           → IsStep (moment visible store) (root_of target_origin) (own_step world.tree valued.noted) v
           → SoundFrom {A = Unit {0}} {B = Unit {0}} world block visible store Any_value (tested-store place assignment.fits v) (walked-store reach valued)
       test-sound store leads valued v inside of_kind of_form is_step =
@@ -352,25 +369,27 @@ module _ (world : World) (block : ℕ) (env : Surroundings) (records : List Open
           let notes = valued.noted in
           let step = own_step world.tree notes in
           let fits = assignment.fits in
-          let form = own_form (ordinal_in world) in
           let test = effect.require (is_in fits.range v) fits.site in
           from-then world block visible store (IsFitting known v) Any_value test (λ tested. effect.store place v) (flow.fitting fits known)
-          (walk.assign_value assignment (held reach) notes)
+          (λ passed context. walk.assign_value assignment (held context.version reach) notes passed context)
           (sound-here world block visible store (IsFitting known v) test (flow.fitting fits known)
           (fitting-sound world block visible fits known v below inside))
-          (λ passed done s t is from told.
+          (λ passed done s t is from told at.
+          let form = own_form (ordinal_in world) at.version in
           let stays : t.store ≡ store = required-leaves (is_in fits.range v) fits.site s t done is ∙ from in
           let own = passed-typed world target_origin target_selectors fits v typed (required-true (is_in fits.range v) fits.site s t done is)
           (subst (λ (one : Scalar). IsOf one v) of_kind (known-of known v inside)) in
           sound-by_tree world block visible t.store Any_value (effect.store place v)
-          (λ (tree : Tree). walk.assign_to assignment.becomes target_origin target_selectors (held reach) (own_form (is_ordinal_variable tree))
+          (λ (tree : Tree). walk.assign_to assignment.becomes target_origin target_selectors (held at.version reach) (own_form
+          (is_ordinal_variable tree) at.version)
           (own_step tree notes)
           (known_range passed))
-          (value-stored assignment.becomes target_origin target_selectors own.0 own.1 v own.2 seen (held reach) place (known_range passed)
+          (value-stored assignment.becomes target_origin target_selectors own.0 own.1 v own.2 seen (held at.version reach) place (known_range passed)
           (values-tell.in_range passed v told.0) t.store
-          (subst (λ (x : Store). LeadsTo world block env target_origin target_selectors (held reach) place x) (sym stays) leads) form step
-          (subst (λ (x : Store). IsOfForm (moment visible x) form v) (sym stays) of_form)
-          (subst (λ (x : Store). IsStep (moment visible x) (root_of target_origin) step v) (sym stays) is_step)))
+          (subst (λ (x : Store). LeadsTo world block env target_origin target_selectors (held at.version reach) place x) (sym stays)
+          (leads at.version)) form step
+          (subst (λ (x : Store). IsOfForm (moment visible x) form v) (sym stays) (of_form at.version))
+          (subst (λ (x : Store). IsStep (moment visible x) (root_of target_origin) step v) (sym stays) is_step)) at)
 
       from-value : (store : Store) → LeadsTo world block env target_origin target_selectors reach place store
           → SoundFrom {A = Unit {0}} {B = Unit {0}} world block visible store Any_value
@@ -386,9 +405,10 @@ module _ (world : World) (block : ℕ) (env : Surroundings) (records : List Open
           (λ valued v s t is from given numbers.
           let inside = given.held in
           test-sound t.store
-          (reached-then world block env store t.store target_origin target_selectors reach place (holds_call value)
+          (λ version.
+          reached-then version world block env store t.store target_origin target_selectors reach place (holds_call value)
           (λ quiet. expression-kept value quiet env s t v is ∙ from) leads) valued v inside.0 inside.1
-          (forms-tell (ordinal_in world) value env s t v is numbers) (given.steps (root_of target_origin) numbers))
+          (λ version. forms-tell (ordinal_in world) version value env s t v is numbers) (given.steps (root_of target_origin) numbers))
 
   pub assignment-sound : (assignment : Assignment) → stmt_is_well_formed outline block (Assign assignment) ≡ true
       → statement_held (Assign assignment) ≡ true → statement_begins (Assign assignment) records ≡ true

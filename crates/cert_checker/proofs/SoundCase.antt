@@ -16,7 +16,10 @@ use Rattle.meaning.specs.Effect as effect
 use Rattle.meaning.specs.Meaning.{Execution, Surroundings, arm_of, is_among}
 use Rattle.meaning.specs.Store.{Environment, Store}
 use Rattle.checker_state.specs.State.{State, Table, range_of}
-use Rattle.checker_state.specs.Forms.{Form, Literal, Signed, Entire, Moved, Other, bound_of, root_of}
+use Rattle.domain.specs.declared.versions.Version.{Version}
+use Rattle.checker_state.specs.declared.forms.Form.{Form}
+use Rattle.checker_state.specs.declared.forms.Form.TheVariants.{Fixed, Entire, Moved, Other}
+use Rattle.checker_state.specs.Forms.{bound_of, root_of}
 use Rattle.checker_state.specs.Holds.{HasNumber, HoldNumbers, Moment, moment}
 use Rattle.checker_state.specs.Knows.{AreRows, IsOfForm, Knows}
 use Rattle.checker_state.specs.State.{table_of}
@@ -31,16 +34,16 @@ use Rattle.cert_checker.specs.Walk.{arms_walk}
 use Rattle.cert_checker.proofs.SoundLoops.{joined-one}
 
 -- an entire variable has the number of the expression that it is
-pub entire-number : (form : Form) (m : Moment) (n : ℤ) (root : ℕ) → IsOfForm m (bound_of form) (Number n) → root_of form ≡ Some root → HasNumber m root n
-entire-number (Entire other) m n root (k, same, (old, has, sum)) is =
+pub entire-number : (version : Version) (form : Form) (m : Moment) (n : ℤ) (root : ℕ) → IsOfForm m (bound_of version form) (Number n)
+    → root_of form ≡ Some root → HasNumber m root n
+entire-number version (Entire other) m n root (k, same, (old, has, sum)) is =
     let number : n ≡ k = cc in
     let variable : other ≡ root = cc in
     let value : old ≡ n = omega (arith, ints) in
     subst (λ (r : ℕ). HasNumber m r n) variable (subst (λ (v : ℤ). HasNumber m other v) value has)
-entire-number (Literal value) m n root of_form is = absurd (cc)
-entire-number (Signed value) m n root of_form is = absurd (cc)
-entire-number (Moved other k) m n root of_form is = absurd (cc)
-entire-number Other m n root of_form is = absurd (cc)
+entire-number version (Fixed spelling value) m n root of_form is = absurd (cc)
+entire-number version (Moved other spelling k) m n root of_form is = absurd (cc)
+entire-number version Other m n root of_form is = absurd (cc)
 
 -- what is known at an arm whose constants have the value of the index
 pub at-constants_known : (rows : List Parts) (table : Table) → AreRows rows table

@@ -32,6 +32,7 @@ use Rattle.checker_rows.proofs.Accessed.{row-leaf, rows-count, rows-are}
 use Rattle.checker_calls.proofs.Origins.{rows-same}
 use Rattle.checker_state.specs.Stores.{Reach}
 use Rattle.checker_expressions.specs.Walk as flow
+use Rattle.checker_expressions.specs.Walk.{Context}
 use Rattle.checker_expressions.proofs.Fitting.{copy-for, same-type}
 use Rattle.checker_expressions.proofs.Sound.{Any_value, Good, SoundCalls, SoundFrom, World, declared_in, from-then, is_seen, sound-anywhere, sound-here}
 use Rattle.checker_expressions.proofs.Sound.{types_in}
@@ -155,7 +156,8 @@ module _ (world : World) (block : ℕ) (env : Surroundings) (records : List Open
       let walking = flow.access_walk copying.target (flow.index_pieces indexes) in
       let whole_walking = flow.whole_walk value (flow.index_pieces value_indexes) in
       let hold = whole_holds_call value value_indexes in
-      let copy = λ (reach : Reach). walk.copy_to copying.becomes origin selectors (reach_stored selectors hold reach) in
+      let copy = λ (reach : Reach) (copied : List Interval) (own : Context).
+      walk.copy_to copying.becomes origin selectors (reach_stored own.version selectors hold reach) copied own in
       let walk_next = λ (reach : Reach). flow.◌>>=◌ whole_walking (copy reach) in
       sound-anywhere {A = Unit {0}} {B = Unit {0}} world block visible Any_value (effect.◌>>=◌ action next) (flow.◌>>=◌ walking walk_next)
       (λ store.
@@ -167,8 +169,8 @@ module _ (world : World) (block : ℕ) (env : Surroundings) (records : List Open
       (copy reach)
       (sound-here world block visible t.store (IsWholeIn world block env value) whole whole_walking
       (whole_value-sound world block env records opened laws calls value value_indexes three.0 kinds.1 begun.1))
-      (λ ranges values s2 u gives same told.
+      (λ ranges values s2 u gives same told at.
       copy-stored origin selectors type_id leads_is copying.becomes seen value (length value_indexes) (well-whole value value_indexes three.0) three.1
-      (reach_stored selectors hold reach) place ranges values told u.store
-      (reached-then world block env t.store u.store origin selectors reach place hold
-      (λ quiet. whole-kept value value_indexes quiet env s2 u values gives ∙ same) led))))
+      (reach_stored at.version selectors hold reach) place ranges values told u.store
+      (reached-then at.version world block env t.store u.store origin selectors reach place hold
+      (λ quiet. whole-kept value value_indexes quiet env s2 u values gives ∙ same) led) at)))

@@ -15,6 +15,7 @@ use Rattle.typed_tree.specs.declared.tree.Direction.TheVariants.{To, DownTo}
 use Rattle.typed_tree.specs.declared.tree.ForHead.{ForHead}
 use Rattle.typed_tree.specs.declared.tree.RangeTest.{RangeTest}
 use Rattle.domain.specs.Interval.{Interval, HasMember}
+use Rattle.domain.specs.declared.versions.Version.{Version}
 use Rattle.checker_state.specs.Bounds.{Bound}
 use Rattle.meaning.specs.declared.value.Value.TheVariants.{Number}
 use Rattle.meaning.specs.Counting.{has_values, next_value, value_behind, values_before}
@@ -501,9 +502,9 @@ module _ (world : World) (block : ℕ) (env : Surroundings)
       (in_table.0, in_table.1, in_table.2 ∙ sym here.block_is)) here.stands.goes
 
   -- this is known of the values of the bounds
-  module _ (from to : Known) where
+  module _ (version : Version) (from to : Known) where
     abbrev way : Way
-    way = way_of (ordinal_in world) head from to
+    way = way_of (ordinal_in world) version head from to
 
     module _ (context : Context) (state : State) (x y : ℤ)
         (text : IsControl world block env execution context head.control) (held : AreControlled among visible context)

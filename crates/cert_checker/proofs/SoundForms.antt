@@ -34,6 +34,7 @@ use Rattle.typed_tree.specs.WellFormed.{Outline, all_hold, are_whole, is_control
 use Rattle.typed_tree.specs.WellFormed.{fits_target, is_well_formed_record, is_well_formed_stmt, is_well_formed_test, leads_to_ordinal, outline_of}
 use Rattle.typed_tree.specs.WellFormed.{is_well_formed_line, is_well_formed_read, stmt_is_well_formed}
 use Rattle.domain.specs.Interval.{common}
+use Rattle.domain.specs.declared.versions.Version.{Version}
 use Rattle.domain.specs.Numbers.{hull, is_covered}
 use Rattle.domain.proofs.Numbers.{among-hull, covered-among}
 use Rattle.meaning.specs.declared.value.Value.{Value}
@@ -394,7 +395,8 @@ module _ (world : World) (block : ℕ) (own_block : Block)
         (λ done. effect.undefine (visible.variables head.control))
 
     abbrev walked_bounds : Tree → ForHead → Walking (Unit {0}) → Known → Known → Walking (Unit {0})
-    walked_bounds tree head walking from to = walk.for_walk head walking (way_of (is_ordinal_variable tree) head from to)
+    walked_bounds tree head walking from to context =
+        walk.for_walk head walking (way_of (is_ordinal_variable tree) context.version head from to) context
 
     bounds-good : (head : ForHead) (execution : Execution) (walking : Walking (Unit {0})) (among : List ℕ)
         → controls_inside world.tree head.loop_number ≡ among → is_for_statement world.tree head.loop_number ≡ true
@@ -405,16 +407,17 @@ module _ (world : World) (block : ℕ) (own_block : Block)
         → IsControl world block env execution context head.control → AreControlled among visible context
         → (walked_bounds world.tree head walking from to context state).broken ≡ []
         → IsPartOf world (walked_bounds world.tree head walking from to context state)
-        → Here world block visible context state t → IsOfForm (moment visible t.store) (form_before (ordinal_in world) head.first.value head.last.value) a
-        → IsOfForm (moment visible t.store) (bound_form (ordinal_in world) head.last.value) b → IsHeld scalar.Ordinal from a t.store
+        → Here world block visible context state t
+        → IsOfForm (moment visible t.store) (form_before (ordinal_in world) context.version head.first.value head.last.value) a
+        → IsOfForm (moment visible t.store) (bound_form (ordinal_in world) context.version head.last.value) b → IsHeld scalar.Ordinal from a t.store
         → IsHeld scalar.Ordinal to b t.store
         → Good world (Foretold world visible context (walked_bounds world.tree head walking from to context state) t.store) t (from_bounds head execution a b t)
     bounds-good head execution walking among inside_are kind one controls_are stands first_tested last_tested (Ordinal from) (Ordinal to)
         (Number x) (Number y) context state t text held unbroken part here first_form last_form in_first in_last =
-        for-good world block env head stands execution walking among inside_are kind one (Ordinal from) (Ordinal to) context state
+        for-good world block env head stands execution walking among inside_are kind one context.version (Ordinal from) (Ordinal to) context state
         x y text held controls_are first_tested last_tested t unbroken part here
-        (of-form_may visible t.store (form_before (ordinal_in world) head.first.value head.last.value) x first_form)
-        (of-form_may visible t.store (bound_form (ordinal_in world) head.last.value) y last_form) in_first.0 in_last.0
+        (of-form_may visible t.store (form_before (ordinal_in world) context.version head.first.value head.last.value) x first_form)
+        (of-form_may visible t.store (bound_form (ordinal_in world) context.version head.last.value) y last_form) in_first.0 in_last.0
     bounds-good head execution walking among inside_are kind one controls_are stands first_tested last_tested (Ordinal from) (Ordinal to)
         (Number x) (Members set) context state t text held unbroken part here first_form last_form in_first in_last = absurd in_last.0
     bounds-good head execution walking among inside_are kind one controls_are stands first_tested last_tested (Ordinal from) (Ordinal to)
@@ -425,14 +428,14 @@ module _ (world : World) (block : ℕ) (own_block : Block)
         a b context state t text held unbroken part here first_form last_form in_first in_last = absurd (let other = in_first.1 in cc)
 
     -- the form of the first bound behind the last
-    form-behind : (first last : Expr) (before after : Store) (a : Value) → (holds_call last ≡ false → after ≡ before)
-        → IsOfForm (moment visible before) (bound_form (ordinal_in world) first) a
-        → IsOfForm (moment visible after) (form_before (ordinal_in world) first last) a
-    form-behind first last before after a stays of_form = by (holds_call last) refl
+    form-behind : (version : Version) (first last : Expr) (before after : Store) (a : Value) → (holds_call last ≡ false → after ≡ before)
+        → IsOfForm (moment visible before) (bound_form (ordinal_in world) version first) a
+        → IsOfForm (moment visible after) (form_before (ordinal_in world) version first last) a
+    form-behind version first last before after a stays of_form = by (holds_call last) refl
       where
-        by : (hold : Bool) → holds_call last ≡ hold → IsOfForm (moment visible after) (cond hold None (bound_form (ordinal_in world) first)) a
+        by : (hold : Bool) → holds_call last ≡ hold → IsOfForm (moment visible after) (cond hold None (bound_form (ordinal_in world) version first)) a
         by true is = tt
-        by false is = subst (λ (store : Store). IsOfForm (moment visible store) (bound_form (ordinal_in world) first) a) (sym (stays is)) of_form
+        by false is = subst (λ (store : Store). IsOfForm (moment visible store) (bound_form (ordinal_in world) version first) a) (sym (stays is)) of_form
 
     module _ (head : ForHead) (execution : Execution) (walking : Walking (Unit {0})) (among : List ℕ)
         (inside_are : controls_inside world.tree head.loop_number ≡ among) (kind : is_for_statement world.tree head.loop_number ≡ true)
@@ -478,8 +481,8 @@ module _ (world : World) (block : ℕ) (own_block : Block)
           (last_sound context from.after t (unbroken-left to.broken rest.broken more_unbroken) (part-left world to rest more_part) here_first)
           (λ b u last_is last_told.
           let here_last = here-behind world block visible Held context from.after to t u b here_first last_told in
-          let form = form-behind first last t.store u.store a (λ quiet. expression-kept last quiet env t u b last_is)
-          (forms-tell (ordinal_in world) first env s t a first_is (numbers-here world block visible context from.after t here_first)) in
+          let form = form-behind context.version first last t.store u.store a (λ quiet. expression-kept last quiet env t u b last_is)
+          (forms-tell (ordinal_in world) context.version first env s t a first_is (numbers-here world block visible context from.after t here_first)) in
           good-weaker world (Foretold world visible context rest u.store) Q u (finish a b u)
           (λ done w is then. record {
             tie = tt;
@@ -489,8 +492,8 @@ module _ (world : World) (block : ℕ) (own_block : Block)
           })
           (bounds-good head execution walking among inside_are kind one controls_are stands first_tested last_tested from.value to.value a b context to.after u
           (text context own_held) inside_held (unbroken-right to.broken rest.broken more_unbroken) (part-right world to rest more_part) here_last form
-          (forms-tell (ordinal_in world) last env t u b last_is (numbers-here world block visible context to.after u here_last)) first_told.so.tie
-          last_told.so.tie)))
+          (forms-tell (ordinal_in world) context.version last env t u b last_is (numbers-here world block visible context to.after u here_last))
+          first_told.so.tie last_told.so.tie)))
 
       for-sound : SoundAmong {A = Unit {0}} {B = Unit {0}} (head.control ∷ among) world block visible Any_value bounds
           (flow.◌>>=◌ (value_walk head.first.value)
@@ -568,7 +571,7 @@ module _ (world : World) (block : ℕ) (own_block : Block)
         → AreControlled (all_inside (map inside_of (bodies arms))).controls visible context
         → (walked_index world.tree head arms known context state).broken ≡ []
         → IsPartOf world (walked_index world.tree head arms known context state) → Here world block visible context state t
-        → IsOfForm (moment visible t.store) (bound_form (ordinal_in world) head.index) v → IsHeld scalar.Ordinal known v t.store
+        → IsOfForm (moment visible t.store) (bound_form (ordinal_in world) context.version head.index) v → IsHeld scalar.Ordinal known v t.store
         → Good world (Foretold world visible context (walked_index world.tree head arms known context state) t.store) t (from_index head arms v t)
     case-good head arms (Ordinal range) (Number n) context state t below well text held unbroken part here form inside =
         let site = head.site in
@@ -592,7 +595,7 @@ module _ (world : World) (block : ℕ) (own_block : Block)
         good-weaker world (Foretold world visible context rest t.store) (Foretold world visible context whole t.store) t
         (from_index head arms (Number n) t)
         (λ done u gives told. record { tie = tt; stands = told.so.stands; kept = told.so.kept })
-        (arms-good site test.after root n context t base_here (λ r is. entire-number form_is (moment visible t.store) n r form is) rows
+        (arms-good site test.after root n context t base_here (λ r is. entire-number context.version form_is (moment visible t.store) n r form is) rows
         arms Dead well text held (unbroken-right tested.broken rest.broken unbroken) (part-right world tested rest part)
         (subst (λ k. meaning.is_among (constants_before k rows) n ≡ true) same_length among)))
         (λ missing.
@@ -642,7 +645,7 @@ module _ (world : World) (block : ℕ) (own_block : Block)
           })
           (case-good head arms first.value v context first.after t below well text held (unbroken-right first.broken rest.broken unbroken)
           (part-right world first rest part) here_then
-          (forms-tell (ordinal_in world) index env s t v is (numbers-here world block visible context first.after t here_then)) told.so.tie))
+          (forms-tell (ordinal_in world) context.version index env s t v is (numbers-here world block visible context first.after t here_then)) told.so.tie))
 
       case-sound : SoundAmong {A = Unit {0}} {B = Unit {0}} case_controls world block visible Any_value chosen
           (flow.◌>>=◌ (value_walk head.index) (λ known context. walked_index context.tree head arms known context))

@@ -12,6 +12,7 @@ use Rattle.typed_tree.specs.declared.tree.Scalar.TheVariants as scalar
 use Rattle.typed_tree.specs.declared.tree.Selector.{Selector}
 use Rattle.typed_tree.specs.declared.tree.Tree.{Tree}
 use Rattle.domain.specs.Interval.{Interval}
+use Rattle.domain.specs.declared.versions.Version.{Version}
 use Rattle.meaning.specs.declared.value.Value.TheVariants.{Number}
 use Rattle.meaning.specs.Store.{Environment, Place as StorePlace, Store}
 use Rattle.meaning.specs.Effect as effect
@@ -75,8 +76,8 @@ module _ (world : World) (block : ℕ) (env : Surroundings) (records : List Open
     abbrev range : Interval
     range = limits_of one.range
 
-    abbrev held : Reach → Reach
-    held = reach_stored selectors false
+    abbrev held : Version → Reach → Reach
+    held version = reach_stored version selectors false
 
     -- what is read is tested as a value is that is assigned
     abbrev test : RangeTest
@@ -93,13 +94,13 @@ module _ (world : World) (block : ℕ) (env : Surroundings) (records : List Open
       -- a number of the type is stored
       store-sound : (n : ℤ) → is_in one.range (Number n) ≡ true → (store : Store) → LeadsTo world block env origin selectors reach place store
           → SoundFrom {A = Unit {0}} {B = Unit {0}} world block visible store Any_value (effect.store place (Number n)) (read_value name one reach)
-      store-sound n inside store leads =
+      store-sound n inside store leads at =
           let own = passed-typed world origin selectors test (Number n) typed inside tt in
           sound-by_tree {A = Unit {0}} {B = Unit {0}} world block visible store Any_value (effect.store place (Number n))
-          (λ (tree : Tree). walk.assign_to (point_place tree one.point name) origin selectors (held reach) None None range)
+          (λ (tree : Tree). walk.assign_to (point_place tree one.point name) origin selectors (held at.version reach) None None range)
           (value-stored world block env records opened laws calls (point_place world.tree one.point name) origin selectors own.0 own.1 (Number n) own.2 seen
-          (held reach) place range (is_in-limits one.range (Number n) inside) store
-          (reached-then world block env store store origin selectors reach place false (λ quiet. refl) leads) None None tt tt)
+          (held at.version reach) place range (is_in-limits one.range (Number n) inside) store
+          (reached-then at.version world block env store store origin selectors reach place false (λ quiet. refl) leads) None None tt tt) at
 
       read-stored : (store : Store) → LeadsTo world block env origin selectors reach place store
           → SoundFrom {A = Unit {0}} {B = Unit {0}} world block visible store Any_value (from_place place) (read_value name one reach)

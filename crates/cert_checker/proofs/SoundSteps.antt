@@ -36,7 +36,10 @@ use Rattle.meaning.specs.Meaning as meaning
 use Rattle.meaning.specs.Meaning.{Surroundings, value_of}
 use Rattle.checker_state.specs.Bounds.{is_variable}
 use Rattle.checker_state.specs.Conditions.{condition_of}
-use Rattle.checker_state.specs.Forms.{Form, Literal, Signed, Entire, Moved, Other, bound_of, root_of}
+use Rattle.domain.specs.declared.versions.Version.TheVariants.{One}
+use Rattle.checker_state.specs.declared.forms.Form.{Form}
+use Rattle.checker_state.specs.declared.forms.Form.TheVariants.{Fixed, Entire, Moved, Other}
+use Rattle.checker_state.specs.Forms.{bound_of, root_of}
 use Rattle.checker_state.specs.Holds.{HasNumber, HoldNumbers, moment}
 use Rattle.checker_state.specs.Knows.{IsOfForm, IsStep}
 use Rattle.checker_state.specs.declared.value.Known.{Known}
@@ -102,10 +105,9 @@ taken-has (Set hull) v step is inside = absurd (none-some step is)
 
 -- the form of an entire variable
 entire-form : (form : Form) (root : ℕ) → is_variable root (root_of form) ≡ true → form ≡ Entire root
-entire-form (Literal n) root is = absurd (cc)
-entire-form (Signed n) root is = absurd (cc)
+entire-form (Fixed spelling n) root is = absurd (cc)
 entire-form (Entire other) root is = ap Entire (sym (eqb-true root other is))
-entire-form (Moved other n) root is = absurd (cc)
+entire-form (Moved other spelling n) root is = absurd (cc)
 entire-form Other root is = absurd (cc)
 
 quiet-of : (b : Bool) → not b ≡ true → b ≡ false
@@ -125,8 +127,8 @@ module _ (world : World) (block : ℕ) (env : Surroundings) (records : List Open
       → HoldNumbers (ordinal_in world) (moment visible t.store) → HasNumber (moment visible t.store) root (number_of v) × (v ≡ Number (number_of v))
   variable-has e s t v is gives numbers =
       let form_is = entire-form (condition_of (ordinal_in world) e).form root is in
-      let told : IsOfForm (moment visible t.store) (bound_of (Entire root)) v =
-      subst (λ (form : Form). IsOfForm (moment visible t.store) (bound_of form) v) form_is (forms-tell (ordinal_in world) e env s t v gives numbers) in
+      let told : IsOfForm (moment visible t.store) (bound_of One (Entire root)) v =
+      subst (λ (form : Form). IsOfForm (moment visible t.store) (bound_of One form) v) form_is (forms-tell (ordinal_in world) One e env s t v gives numbers) in
       let same : told.2.0 ≡ told.0 = omega (arith, ints, told.2.2) in
       let value_is : v ≡ Number told.0 = told.1 in (
         subst (λ (n : ℤ). HasNumber (moment visible t.store) root n) (same ∙ sym (ap number_of value_is)) told.2.1,

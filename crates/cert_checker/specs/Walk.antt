@@ -32,6 +32,9 @@ use Rattle.typed_tree.specs.declared.tree.Stmt.TheFolds.{fold-Stmt}
 use Rattle.typed_tree.specs.Accesses.{Origin, origin_of, root_of, steps_of}
 use Rattle.typed_tree.specs.Calls.{holds_call, whole_holds_call}
 use Rattle.domain.specs.Interval.{Interval, common}
+use Rattle.domain.specs.Versions.{has}
+use Rattle.domain.specs.declared.versions.Extension.TheVariants.{Boxes}
+use Rattle.domain.specs.declared.versions.Version.{Version}
 use Rattle.domain.specs.Numbers.{hull, is_covered}
 use Rattle.domain.specs.Facts.{Fact}
 use Rattle.checker_state.specs.Bounds.{Bound}
@@ -189,9 +192,10 @@ abbrev pub reach_of_store : List Selector → Reach → Reach
 reach_of_store selectors reach = if is_some_index reach.indexes && not (ends_at_index selectors)
     then record reach { is_all = false } else reach
 
--- the same, where the value may hold a call
-abbrev pub reach_stored : List Selector → Bool → Reach → Reach
-reach_stored selectors holds_call reach = reach_of_store selectors (reach_before holds_call reach)
+-- the same, where the value may hold a call; in a version with boxes a component of each element counts by itself
+abbrev pub reach_stored : Version → List Selector → Bool → Reach → Reach
+reach_stored version selectors holds_call reach = if has version Boxes then reach_before holds_call reach
+    else reach_of_store selectors (reach_before holds_call reach)
 
 -- a piece from its entry on
 abbrev pub from_entry : ℕ → Walking (Unit {0}) → Walking (Unit {0})
@@ -203,7 +207,7 @@ from_entry number walking = do
 abbrev pub assign_value : Assignment → Reach → List Noted → Known → Walking (Unit {0})
 assign_value assignment reach notes known context =
     assign_to assignment.becomes (origin_of assignment.target) assignment.target.selectors.items reach
-    (bound_form (is_ordinal_variable context.tree) assignment.value)
+    (bound_form (is_ordinal_variable context.tree) context.version assignment.value)
     (value_step context.tree (root_of (origin_of assignment.target)) assignment.value notes) (known_range known) context
 
 -- an assignment: the target is accessed, and then comes the value
@@ -213,8 +217,9 @@ assignment_walk assignment =
       reach ← access_walk target (index_pieces assignment.indexes.items)
       valued ← assigned_walk assignment.value
       passed ← fitting assignment.fits valued.known
-      assign_value assignment (reach_stored target.selectors.items (holds_call assignment.value) reach) valued.noted
-          passed
+      λ context. assign_value assignment
+          (reach_stored context.version target.selectors.items (holds_call assignment.value) reach) valued.noted passed
+          context
 
 -- an assignment of a whole value: the target is accessed, and then come the components, one after another
 abbrev pub copying_walk : Copying → Walking (Unit {0})
@@ -223,8 +228,8 @@ copying_walk copying =
     let hold = whole_holds_call copying.value copying.value_indexes.items in do
       reach ← access_walk target (index_pieces copying.indexes.items)
       ranges ← whole_walk copying.value (index_pieces copying.value_indexes.items)
-      copy_to copying.becomes (origin_of target) target.selectors.items
-          (reach_stored target.selectors.items hold reach) ranges
+      λ context. copy_to copying.becomes (origin_of target) target.selectors.items
+          (reach_stored context.version target.selectors.items hold reach) ranges context
 
 -- the place of a point of a program, or else another
 abbrev pub place_or : Place → Option Point → Place
@@ -238,7 +243,7 @@ point_place tree number other = place_or other (slice_get tree.points.items numb
 abbrev pub read_value : Place → ReadVariable → Reach → Walking (Unit {0})
 read_value name one reach context =
     assign_to (point_place context.tree one.point name) (origin_of one.access) one.access.selectors.items
-    (reach_stored one.access.selectors.items false reach) None None (limits_of one.range) context
+    (reach_stored context.version one.access.selectors.items false reach) None None (limits_of one.range) context
 
 -- a variable that is read by a procedure whose name stands at a place: it is accessed, and then it gets its value
 abbrev pub read_walk : Place → ReadVariable → Walking (Unit {0})
@@ -426,7 +431,7 @@ abbrev pub bounds_walk : ForHead → Walking (Unit {0}) → Walking (Unit {0})
 bounds_walk head body = do
   from ← value_walk head.first.value
   to ← value_walk head.last.value
-  λ context. for_walk head body (way_of (is_ordinal_variable context.tree) head from to) context
+  λ context. for_walk head body (way_of (is_ordinal_variable context.tree) context.version head from to) context
 
 -- ---- case statements
 

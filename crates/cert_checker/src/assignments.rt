@@ -39,7 +39,9 @@ impl<'a> Walk<'a> {
         let reach = self.access(target, &assignment.indexes, visits);
         let valued = self.assigned_value(&assignment.value, visits);
         let passed = self.flow.fitting(assignment.fits, valued.known);
-        let reach = reach_stored(&target.selectors, holds_call(&assignment.value), reach);
+        let version = self.flow.grounds.version;
+        let holds_call = holds_call(&assignment.value);
+        let reach = reach_stored(version, &target.selectors, holds_call, reach);
         self.assign_value(assignment, reach, &valued.notes, passed);
     }
 
@@ -69,7 +71,8 @@ impl<'a> Walk<'a> {
         let reach = self.access(&copying.target, &copying.indexes, visits);
         let ranges = self.whole_value(&copying.value, &copying.value_indexes, visits);
         let holds_call = whole_holds_call(&copying.value, &copying.value_indexes);
-        let reach = reach_stored(&copying.target.selectors, holds_call, reach);
+        let version = self.flow.grounds.version;
+        let reach = reach_stored(version, &copying.target.selectors, holds_call, reach);
         self.copy_to(copying, reach, &ranges);
     }
 
@@ -84,7 +87,7 @@ impl<'a> Walk<'a> {
         ensures { WalkGoes (assign_value assignment.now (said_reach reach) notes.now passed) self.old self.new tt }
     {
         let rows = self.flow.state.table();
-        let form = bound_form(rows, &assignment.value);
+        let form = bound_form(self.flow.grounds.version, rows, &assignment.value);
         let step = value_step(rows, assignment.target.root, &assignment.value, notes);
         self.assign_to(
             assignment.becomes,

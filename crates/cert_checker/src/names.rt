@@ -1,11 +1,12 @@
 //! What a certificate may name of a program (ISO 7185:1990, 6.2.2): its blocks, its loops, and the variables that are
 //! visible where something is claimed of them.
-ghost use Rattle.std.specs.Prelude.{◌≡◌, if◌then◌else◌, nat_eq, slice_get};
+ghost use Rattle.std.specs.Prelude.{◌≡◌, Some, if◌then◌else◌, nat_eq, slice_get};
 ghost use Rattle.std.specs.List.{list_all};
 ghost use Rattle.types.specs.Types.{is_scalar};
 ghost use Rattle.checker_calls.specs.Names.{block_is_known, bound_is_known, bound_roots, claims_are_known};
 ghost use Rattle.checker_calls.specs.Names.{counts_beside, is_integer_variable, is_other, loop_fact_is_known};
-ghost use Rattle.checker_calls.specs.Names.{exit_is_known, fact_is_known, fact_is_on, fact_roots, has_indexes};
+ghost use Rattle.checker_calls.specs.Names.{exit_is_known, fact_is_known, fact_is_on, fact_roots, has_boxes};
+ghost use Rattle.checker_calls.specs.Names.{has_indexes, inner_spans};
 ghost use Rattle.checker_calls.specs.Names.{has_parameter, is_array, is_known, is_matrix, is_of_loops, is_own_result};
 ghost use Rattle.checker_calls.specs.Names.{is_round_about, names, pair_is_known, section_is_known, span_is_known};
 ghost use Rattle.checker_calls.specs.Names.{span_roots, spans_are_known, spans_roots, stands_in};
@@ -14,7 +15,7 @@ ghost use Rattle.cert_checker.specs.NamesView.{may_name};
 use certificate::{AliasPair, Certificate, Fact, LoopClaims, Section};
 use checker_calls::{is_outward, is_result, is_value_parameter, is_variable_parameter, is_visible};
 use checker_rows::Rows;
-use domain::{Bound, Path, Span, Spans};
+use domain::{Bound, Path, Span, Spans, Step};
 use typed_tree::Tree;
 use types::{TypeForm, TypeId, TypeTable};
 
@@ -332,13 +333,40 @@ fn names_scalars(rows: &Rows, path: &Path) -> bool
     }
 }
 
-/// Whether it names a part with elements that have an index for each span.
+/// Whether it names a part with elements that have an index for each span that steps to elements leave.
 fn names_elements(rows: &Rows, path: &Path, spans: Spans) -> bool
-    ensures { result ≡ names rows.now (has_indexes rows.now.types spans) path.now }
+    ensures { result ≡ names rows.now (has_boxes rows.now.types path.now.steps.items (Some spans)) path.now }
 {
     match rows.named(path) {
         None => false,
-        Some(part) => has_indexes(&rows.tree().types, spans, part.type_id),
+        Some(part) => has_boxes(&rows.tree().types, &path.steps, spans, part.type_id),
+    }
+}
+
+/// Whether a part behind steps has elements with an index for each span: a step to elements takes the first.
+fn has_boxes(types: &TypeTable, steps: &[Step], spans: Spans, id: TypeId) -> bool
+    ensures { result ≡ has_boxes types.now steps.now (Some spans) id }
+{
+    let mut left = spans;
+    for step in steps {
+        if let Step::Element = step {
+            match inner_spans(left) {
+                None => return false,
+                Some(inner) => left = inner,
+            }
+        }
+    }
+    has_indexes(types, left, id)
+}
+
+/// The spans behind the first.
+fn inner_spans(spans: Spans) -> Option<Spans>
+    ensures { result ≡ inner_spans spans }
+{
+    match spans {
+        Spans::None => None,
+        Spans::One(_) => Some(Spans::None),
+        Spans::Two(_, inner) => Some(Spans::One(inner)),
     }
 }
 

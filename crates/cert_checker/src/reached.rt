@@ -5,13 +5,24 @@ ghost use Rattle.cert_checker.specs.Walk.{ends_at_index, is_some_index, reach_be
 
 use checker_calls::unknown_reach;
 use checker_state::{Indexes, Reach};
+use domain::{Extension, Version};
 use typed_tree::Selector;
 
 /// What is reached where these selectors are stored to, by a value that may hold a call.
-pub(crate) fn reach_stored(selectors: &[Selector], holds_call: bool, reach: Reach) -> Reach
-    ensures { said_reach result ≡ reach_stored selectors.now holds_call (said_reach reach) }
+pub(crate) fn reach_stored(
+    version: Version,
+    selectors: &[Selector],
+    holds_call: bool,
+    reach: Reach,
+) -> Reach
+    ensures { said_reach result ≡ reach_stored version selectors.now holds_call (said_reach reach) }
 {
-    reach_of_store(selectors, reach_before(holds_call, reach))
+    let reach = reach_before(holds_call, reach);
+    if version.has(Extension::Boxes) {
+        reach
+    } else {
+        reach_of_store(selectors, reach)
+    }
 }
 
 /// A component of an element isn't all that there is of an index.

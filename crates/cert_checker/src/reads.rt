@@ -42,7 +42,8 @@ impl<'a> Walk<'a> {
         ensures { WalkGoes (read_value name one.now (said_reach reach)) self.old self.new tt }
     {
         let place = point_place(self.flow.state.table().tree(), one.point, name);
-        let reach = reach_stored(&one.access.selectors, false, reach);
+        let version = self.flow.grounds.version;
+        let reach = reach_stored(version, &one.access.selectors, false, reach);
         self.assign_to(place, &one.access, reach, limits(one.range), None, None);
     }
 }

@@ -153,7 +153,13 @@ impl<'a> Walk<'a> {
         visits.tick(head.number);
         let from = self.expression(&head.first.value, visits);
         let to = self.expression(&head.last.value, visits);
-        let way = Way::of(self.flow.state.table(), head, from, to);
+        let way = Way::of(
+            self.flow.grounds.version,
+            self.flow.state.table(),
+            head,
+            from,
+            to,
+        );
         self.for_statement(head, body, &way, visits);
     }
 

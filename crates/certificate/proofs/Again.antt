@@ -10,7 +10,8 @@ use Rattle.std.proofs.lemmas.List.{append-nil}
 use Rattle.domain.specs.Interval.{Interval}
 use Rattle.domain.specs.Facts.{Fact as VariableFact, Path, Span}
 use Rattle.domain.specs.Facts.{Range, Defined, Order, Grows}
-use Rattle.domain.specs.Versions.{most_spans}
+use Rattle.domain.specs.Versions.{has, most_spans}
+use Rattle.domain.specs.declared.versions.Extension.TheVariants.{Boxes}
 use Rattle.domain.specs.declared.versions.Version.{Version}
 use Rattle.text_lines.specs.Lines.{lines}
 use Rattle.text_lines.proofs.Bytes.{above_append, are_above}
@@ -67,17 +68,19 @@ range_fact_again version path range fits =
 defined_again : (version : Version) (path : Path) (spans : List Span) → is_fact version (Defined path spans) ≡ true
     → defined_fact version (path_words path ++ flat_map span_words spans) ≡ Ok (Defined path spans)
 defined_again version path [] fits =
-    let right = (and_parts (is_path false path) _ fits).0 in
+    let elements = has version Boxes in
+    let right = (and_parts (is_path elements path) _ fits).0 in
     ap (defined_fact version) (append-nil (path_words path))
-    ∙ ap (defined_at version (path_words path)) (blank_missed (path_words path) (path_above false 32 path (omega arith) right))
-    ∙ rw (path_again false path right) refl
+    ∙ ap (defined_at version (path_words path)) (blank_missed (path_words path) (path_above elements 32 path (omega arith) right))
+    ∙ rw (path_again elements path right) refl
 defined_again version path (span ∷ more) fits =
-    let right = and_parts (is_path false path) _ fits in
+    let elements = has version Boxes in
+    let right = and_parts (is_path elements path) _ fits in
     let spans = (bound_words span.first ++ 32 ∷ bound_words span.last) ++ flat_map span_words more in
-    ap (defined_at version (path_words path ++ 32 ∷ spans)) (blank_found (path_words path) spans (path_above false 32 path (omega arith) right.0))
+    ap (defined_at version (path_words path ++ 32 ∷ spans)) (blank_found (path_words path) spans (path_above elements 32 path (omega arith) right.0))
     ∙ ap (λ word. spanned_fact version word (drop (suc (length (path_words path))) (path_words path ++ 32 ∷ spans))) (word_before (path_words path) spans)
     ∙ ap (spanned_fact version (path_words path)) (drop_past (path_words path) spans)
-    ∙ rw (path_again false path right.0, spans_again version span more right.1) refl
+    ∙ rw (path_again elements path right.0, spans_again version span more right.1) refl
 
 order_fact_again : (version : Version) (root other : ℕ) (number : ℤ) → is_fact version (Order root other number) ≡ true
     → order_fact (variable root ++ 32 ∷ (variable other ++ 32 ∷ signed_decimal number)) ≡ Ok (Order root other number)
@@ -139,9 +142,10 @@ fact_above version (Range path range) fits =
     above_append 10 (path_words path) _ (path_above true 10 path (omega arith) right.0)
     (above_append 10 (signed_decimal range.first) _ (constant_above 10 range.first (omega arith) low.0) (constant_above 10 range.last (omega arith) high.0))
 fact_above version (Defined path spans) fits =
-    let right = and_parts (is_path false path) _ fits in
+    let elements = has version Boxes in
+    let right = and_parts (is_path elements path) _ fits in
     let few = and_parts (nat_le (length spans) (most_spans version)) (list_all is_span spans) right.1 in
-    above_append 10 (path_words path) _ (path_above false 10 path (omega arith) right.0) (spans_above 10 spans (omega arith) few.1)
+    above_append 10 (path_words path) _ (path_above elements 10 path (omega arith) right.0) (spans_above 10 spans (omega arith) few.1)
 fact_above version (Order root other number) fits =
     let small = and_parts (is_small root) _ fits in
     let bound = and_parts (is_small other) (is_constant number) small.1 in

@@ -5,7 +5,7 @@ use Rattle.std.specs.Bool.{if◌then◌else◌}
 use Rattle.std.specs.List.{flat_map, list_all}
 use Rattle.std.proofs.lemmas.Bool.{and_from, and_parts}
 use Rattle.domain.specs.declared.versions.Version.{Version}
-use Rattle.domain.specs.declared.versions.Version.TheVariants.{One, Two}
+use Rattle.domain.specs.declared.versions.Version.TheVariants.{One, Three, Two}
 use Rattle.text_lines.specs.Lines.{Line, ended, lines}
 use Rattle.text_lines.specs.Numerals.{is_number}
 use Rattle.text_lines.proofs.Digits.{decimal-is_number}
@@ -70,6 +70,7 @@ no_heading_so named (Claimed (Fact fact)) = refl
 no_heading : (version : Version) (content : Content) → bytes_eq (line_of content) (heading version) ≡ false
 no_heading One content = no_heading_so (codes "1") content
 no_heading Two content = no_heading_so (codes "2") content
+no_heading Three content = no_heading_so (codes "3") content
 
 -- the fault of such lines goes on behind the first
 fault_step : (version : Version) (number : ℕ) (above : Above) (content : Content) (more : List Content) → list_all (is_content version) (content ∷ more) ≡ true

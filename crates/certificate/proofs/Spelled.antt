@@ -12,7 +12,8 @@ use Rattle.std.proofs.lemmas.List.{append-nil}
 use Rattle.domain.specs.Interval.{Interval, between}
 use Rattle.domain.specs.Facts.{Fact as VariableFact, Path, Span}
 use Rattle.domain.specs.Facts.{Range, Defined, Order}
-use Rattle.domain.specs.Versions.{most_spans}
+use Rattle.domain.specs.Versions.{has, most_spans}
+use Rattle.domain.specs.declared.versions.Extension.TheVariants.{Boxes}
 use Rattle.domain.specs.declared.versions.Version.{Version}
 use Rattle.text_lines.specs.Words.{behind}
 use Rattle.text_lines.proofs.Parting.{behind_some, front_part}
@@ -24,7 +25,7 @@ use Rattle.certificate.specs.Building.{is_content}
 use Rattle.certificate.specs.Contents.{is_claim, is_constant, is_fact, is_path, is_plain, is_small}
 use Rattle.certificate.specs.Lines.{ClaimLine, Alias, Change, Entry, Exit, Fact, Content, Block, Loop, Claimed, claim_of, claim_words, pair_of}
 use Rattle.certificate.specs.Lines.{defined_at, defined_fact, fact_of, fact_words, grow_fact, line_of, order_fact, range_fact, range_of}
-use Rattle.certificate.specs.Lines.{reading, spanned_fact}
+use Rattle.certificate.specs.Lines.{defined_path, reading, spanned_fact}
 use Rattle.certificate.specs.Paths.{path_of, path_words}
 use Rattle.certificate.specs.Words.{◌>>=◌, both, constant_of, number_of, parted, variable, variable_of, when}
 use Rattle.certificate.proofs.GrowthLaws.{grow_spelled}
@@ -109,9 +110,9 @@ spanned_spelled : (version : Version) (words path spans : List ℕ) (fact : Vari
     → spanned_fact version path spans ≡ Ok fact → (codes "defined " ++ words ≡ fact_words fact) × (is_fact version fact ≡ true)
 spanned_spelled version words path spans fact is e =
     let made : Path × List Span → Result VariableFact LineFault = λ parts. Ok (Defined parts.0 parts.1) in
-    let parts = bound_ok (both (path_of false path) (spans_of version spans)) made fact e in
-    let two = both_ok (path_of false path) (spans_of version spans) parts.0.0 parts.0.1 parts.1 in
-    let path_is = path_spelled false path parts.0.0 two.0 in
+    let parts = bound_ok (both (defined_path version path) (spans_of version spans)) made fact e in
+    let two = both_ok (defined_path version path) (spans_of version spans) parts.0.0 parts.0.1 parts.1 in
+    let path_is = path_spelled (has version Boxes) path parts.0.0 two.0 in
     let spans_are = spans_spelled version spans parts.0.1 two.1 in
     let whole = is ∙ ap (λ front. front ++ 32 ∷ spans) path_is.0 ∙ ap (λ rest. path_words parts.0.0 ++ rest) spans_are.0 in
     subst (λ fact. (codes "defined " ++ words ≡ fact_words fact) × (is_fact version fact ≡ true)) (ok_is (Defined parts.0.0 parts.0.1) fact parts.2)
@@ -123,8 +124,8 @@ none_few version = grind (arith, nat_tests)
 defined_part : (version : Version) (words : List ℕ) (o : Option ℕ) (fact : VariableFact) → position (λ byte. byte == 32) words ≡ o
     → defined_at version words o ≡ Ok fact → (codes "defined " ++ words ≡ fact_words fact) × (is_fact version fact ≡ true)
 defined_part version words None fact is e =
-    let path = bound_ok (path_of false words) (λ path. Ok (Defined path [])) fact e in
-    let spelled = path_spelled false words path.0 path.1 in
+    let path = bound_ok (defined_path version words) (λ path. Ok (Defined path [])) fact e in
+    let spelled = path_spelled (has version Boxes) words path.0 path.1 in
     subst (λ fact. (codes "defined " ++ words ≡ fact_words fact) × (is_fact version fact ≡ true)) (ok_is (Defined path.0 []) fact path.2)
     (ap (λ more. codes "defined " ++ more) (spelled.0 ∙ sym (append-nil (path_words path.0))), and_from _ _ spelled.1 (and_from _ _ (none_few version) refl))
 defined_part version words (Some end) fact is e =

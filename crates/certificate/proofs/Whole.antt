@@ -11,7 +11,7 @@ use Rattle.text_lines.specs.Lines.{Line, ended, lines}
 use Rattle.text_lines.proofs.TextLines.{unlines, unlines-lines}
 use Rattle.certificate.specs.declared.Certificate.{Certificate}
 use Rattle.domain.specs.declared.versions.Version.{Version}
-use Rattle.domain.specs.declared.versions.Version.TheVariants.{One, Two}
+use Rattle.domain.specs.declared.versions.Version.TheVariants.{One, Three, Two}
 use Rattle.certificate.specs.declared.fault.ReadFault.{ReadFault}
 use Rattle.certificate.specs.declared.fault.ReadFault.TheVariants as fault
 use Rattle.certificate.specs.Building.{built, is_content, said_line}
@@ -28,17 +28,22 @@ version_is named version same = cc
 abbrev heading_line : Version → Line
 heading_line version = record { bytes = heading version; ended = true }
 
-heading_only : (bytes : List ℕ) (one two : Bool) (version : Version) → bytes_eq bytes (heading One) ≡ one → bytes_eq bytes (heading Two) ≡ two
-    → (if one then Ok One else if two then Ok Two else Err (fault.FirstLine 1)) ≡ Ok version → bytes ≡ heading version
-heading_only bytes true two version is other named = (bytes_eq-Decides bytes (heading One)).0 is ∙ ap heading (version_is One version named)
-heading_only bytes false true version other is named = (bytes_eq-Decides bytes (heading Two)).0 is ∙ ap heading (version_is Two version named)
-heading_only bytes false false version other another named = absurd cc
+heading_only : (bytes : List ℕ) (one two three : Bool) (version : Version) → bytes_eq bytes (heading One) ≡ one
+    → bytes_eq bytes (heading Two) ≡ two → bytes_eq bytes (heading Three) ≡ three
+    → (if one then Ok One else if two then Ok Two else if three then Ok Three else Err (fault.FirstLine 1)) ≡ Ok version → bytes ≡ heading version
+heading_only bytes true two three version is other another named =
+    (bytes_eq-Decides bytes (heading One)).0 is ∙ ap heading (version_is One version named)
+heading_only bytes false true three version other is another named =
+    (bytes_eq-Decides bytes (heading Two)).0 is ∙ ap heading (version_is Two version named)
+heading_only bytes false false true version other another is named =
+    (bytes_eq-Decides bytes (heading Three)).0 is ∙ ap heading (version_is Three version named)
+heading_only bytes false false false version other another third named = absurd cc
 
 ended_heading : (bytes : List ℕ) (ends : Bool) (version : Version) → version_of (record { bytes = bytes; ended = ends }) ≡ Ok version
     → ◌≡◌ {A = Line} (record { bytes = bytes; ended = ends }) (heading_line version)
 ended_heading bytes true version named =
     ap (λ (b : List ℕ). let line : Line = record { bytes = b; ended = true } in line)
-    (heading_only bytes _ _ version refl refl named)
+    (heading_only bytes _ _ _ version refl refl refl named)
 ended_heading bytes false version named = absurd cc
 
 unlines_said : (said : List Content) → unlines (map said_line said) ≡ flat_map (λ content. ended (line_of content)) said
@@ -75,6 +80,7 @@ read_exactly text first below said sections version text_is named none fits belo
 heading_first : (version : Version) (rest : List ℕ) → lines (ended (heading version) ++ rest) ≡ heading_line version ∷ lines rest
 heading_first One rest = refl
 heading_first Two rest = refl
+heading_first Three rest = refl
 
 -- the lines of a spelling
 spelling_lines : (version : Version) (sections : List Section) → are_in_order version sections ≡ true
@@ -90,6 +96,7 @@ spelling_lines version sections right =
 named_again : (version : Version) → version_of (heading_line version) ≡ Ok version
 named_again One = refl
 named_again Two = refl
+named_again Three = refl
 
 spelling_faultless : (version : Version) (sections : List Section) → are_in_order version sections ≡ true → first_fault (spelling version sections) ≡ None
 spelling_faultless version sections right =

@@ -14,9 +14,9 @@ use Rattle.domain.specs.Facts.{Fact as VariableFact, said_path, said_spans, subj
 use Rattle.domain.specs.Interval.{Interval}
 use Rattle.domain.specs.Versions.{has, most_spans}
 use Rattle.domain.specs.declared.growth.Growth.{Growth}
-use Rattle.domain.specs.declared.versions.Extension.TheVariants.{Growths}
+use Rattle.domain.specs.declared.versions.Extension.TheVariants.{Boxes, Growths}
 use Rattle.domain.specs.declared.versions.Version.{Version}
-use Rattle.domain.specs.declared.versions.Version.TheVariants.{One, Two}
+use Rattle.domain.specs.declared.versions.Version.TheVariants.{One, Three, Two}
 use Rattle.text_lines.specs.Lines.{ended}
 use Rattle.certificate.specs.declared.AliasPair.{AliasPair}
 use Rattle.certificate.specs.declared.Certificate.{Certificate}
@@ -114,7 +114,7 @@ is_growth growth =
 abbrev pub is_fact : Version → VariableFact → Bool
 is_fact version (Range path range) =
     is_path true path && (is_constant range.first && (is_constant range.last && is_plain range))
-is_fact version (Defined path spans) = is_path false path && are_spans version spans
+is_fact version (Defined path spans) = is_path (has version Boxes) path && are_spans version spans
 is_fact version (Order root other number) = is_small root && (is_small other && is_constant number)
 is_fact version (Grows root growth) = has version Growths && (is_small root && is_growth growth)
 
@@ -227,6 +227,7 @@ lines_of sections = flat_map lines_of_section sections
 abbrev pub heading : Version → List ℕ
 heading One = codes "pcert 1"
 heading Two = codes "pcert 2"
+heading Three = codes "pcert 3"
 
 -- the text of a certificate
 abbrev pub spelling : Version → List Section → List ℕ

@@ -11,7 +11,7 @@ use Rattle.domain.specs.Facts.{Path, Range, Defined, Order, Grows}
 use Rattle.domain.specs.Facts.{Fact as VariableFact}
 use Rattle.domain.specs.Versions.{has}
 use Rattle.domain.specs.declared.growth.Growth.{Growth}
-use Rattle.domain.specs.declared.versions.Extension.TheVariants.{Growths}
+use Rattle.domain.specs.declared.versions.Extension.TheVariants.{Boxes, Growths}
 use Rattle.domain.specs.declared.versions.Version.{Version}
 use Rattle.text_lines.specs.Words.{behind}
 use Rattle.certificate.specs.declared.AliasPair.{AliasPair}
@@ -84,15 +84,19 @@ range_fact words = do
   parts ← both (path_of true first.0) (both (constant_of second.0) (constant_of second.1))
   range_of parts
 
--- a path without elements, and spans
+-- in a version with boxes a path may lead to elements
+abbrev pub defined_path : Version → List ℕ → Result Path LineFault
+defined_path version word = path_of (has version Boxes) word
+
+-- a path and spans
 abbrev pub spanned_fact : Version → (path spans : List ℕ) → Result VariableFact LineFault
 spanned_fact version path spans = do
-  parts ← both (path_of false path) (spans_of version spans)
+  parts ← both (defined_path version path) (spans_of version spans)
   Ok (Defined parts.0 parts.1)
 
--- a path without elements, and perhaps spans behind a blank
+-- a path, and perhaps spans behind a blank
 abbrev pub defined_at : Version → List ℕ → Option ℕ → Result VariableFact LineFault
-defined_at version words None = path_of false words >>= λ path. Ok (Defined path [])
+defined_at version words None = defined_path version words >>= λ path. Ok (Defined path [])
 defined_at version words (Some end) = spanned_fact version (take end words) (drop (suc end) words)
 
 abbrev pub defined_fact : Version → List ℕ → Result VariableFact LineFault

@@ -7,7 +7,7 @@ use Rattle.std.specs.Option.{is_some}
 use Rattle.std.specs.Ordering.{nat_cmp}
 use Rattle.text_lines.specs.Lines.{Line, lines}
 use Rattle.domain.specs.declared.versions.Version.{Version}
-use Rattle.domain.specs.declared.versions.Version.TheVariants.{One, Two}
+use Rattle.domain.specs.declared.versions.Version.TheVariants.{One, Three, Two}
 use Rattle.text_lines.specs.Numerals.{is_number}
 use Rattle.text_lines.specs.Words.{behind}
 use Rattle.certificate.specs.declared.words.LineFault.{LineFault}
@@ -102,6 +102,7 @@ abbrev pub version_named : List ℕ → Result Version ReadFault
 version_named bytes =
     if bytes_eq bytes (heading One) then Ok One
     else if bytes_eq bytes (heading Two) then Ok Two
+    else if bytes_eq bytes (heading Three) then Ok Three
     else Err (FirstLine 1)
 
 -- the version that a first line names, or its fault: first that it has no end

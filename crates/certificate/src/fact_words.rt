@@ -149,12 +149,19 @@ fn defined_fact(version: Version, words: &[u8]) -> Result<FactWords<'_>, LineFau
 {
     match blank(words) {
         None => {
-            let path = path_of(false, words)?;
+            let path = defined_path(version, words)?;
             let spans = Spans::None;
             Ok(FactWords::Defined { path, spans })
         }
         Some(end) => spanned_fact(version, &words[..end], &words[end + 1..]),
     }
+}
+
+/// The path that a word tells, with steps to elements in a version with boxes.
+fn defined_path(version: Version, word: &[u8]) -> Result<PathWord<'_>, LineFault>
+    ensures { result_map_both word_path (λ fault. fault) result ≡ spec.defined_path version word.now }
+{
+    path_of(version.has(Extension::Boxes), word)
 }
 
 /// The fact that a path and spans tell.
@@ -165,7 +172,7 @@ fn spanned_fact<'a>(
 ) -> Result<FactWords<'a>, LineFault>
     ensures { result_map_both word_fact (λ fault. fault) result ≡ spec.spanned_fact version path.now spans.now }
 {
-    let (path, spans) = both(path_of(false, path), spans_of(version, spans))?;
+    let (path, spans) = both(defined_path(version, path), spans_of(version, spans))?;
     Ok(FactWords::Defined { path, spans })
 }
 

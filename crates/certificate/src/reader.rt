@@ -46,6 +46,7 @@ pub(crate) fn heading(version: Version) -> &'static [u8]
     match version {
         Version::One => b"pcert 1",
         Version::Two => b"pcert 2",
+        Version::Three => b"pcert 3",
     }
 }
 
@@ -61,6 +62,9 @@ fn version_of(line: Line<'_>) -> Result<Version, ReadFault>
     }
     if line.bytes == heading(Version::Two) {
         return Ok(Version::Two);
+    }
+    if line.bytes == heading(Version::Three) {
+        return Ok(Version::Three);
     }
     Err(ReadFault::FirstLine { line: 1 })
 }

@@ -16,6 +16,8 @@ use Rattle.types.specs.declared.form.TypeId.{TypeId}
 use Rattle.domain.specs.declared.facts.Bound.{Bound}
 use Rattle.domain.specs.declared.facts.Bound.TheVariants.{Number, Plus}
 use Rattle.domain.specs.declared.facts.Path.{Path}
+use Rattle.domain.specs.declared.facts.Step.{Step}
+use Rattle.domain.specs.declared.facts.Step.TheVariants.{Element, Field}
 use Rattle.domain.specs.declared.facts.Span.{Span}
 use Rattle.domain.specs.declared.facts.Spans.{Spans}
 use Rattle.domain.specs.declared.facts.Spans.TheVariants as kept_spans
@@ -62,6 +64,19 @@ has_indexes types kept_spans.None id = true
 has_indexes types (kept_spans.One span) id = is_array types id
 has_indexes types (kept_spans.Two span inner) id = is_matrix types id
 
+-- the spans behind the first
+abbrev pub inner_spans : Spans → Option Spans
+inner_spans kept_spans.None = None
+inner_spans (kept_spans.One span) = Some kept_spans.None
+inner_spans (kept_spans.Two span inner) = Some (kept_spans.One inner)
+
+-- so is it of a part behind steps, which take a span for each index on the way
+abbrev pub has_boxes : List Form → List Step → Option Spans → TypeId → Bool
+has_boxes types steps None id = false
+has_boxes types [] (Some spans) id = has_indexes types spans id
+has_boxes types (Element ∷ steps) (Some spans) id = has_boxes types steps (inner_spans spans) id
+has_boxes types (Field name ∷ steps) (Some spans) id = has_boxes types steps (Some spans) id
+
 abbrev pub span_is_known : Tree → Span → Bool
 span_is_known tree span = bound_is_known tree span.first && bound_is_known tree span.last
 
@@ -74,7 +89,8 @@ spans_are_known tree (kept_spans.Two span inner) = span_is_known tree span && sp
 -- the variables of an order are of ordinal types; a growth is none of a block
 abbrev pub fact_is_known : Tree → Fact → Bool
 fact_is_known tree (Range path range) = names tree (is_scalar tree.types) path
-fact_is_known tree (Defined path spans) = names tree (has_indexes tree.types spans) path && spans_are_known tree spans
+fact_is_known tree (Defined path spans) =
+    names tree (has_boxes tree.types path.steps.items (Some spans)) path && spans_are_known tree spans
 fact_is_known tree (Order root other number) = is_ordinal_variable tree root && is_ordinal_variable tree other
 fact_is_known tree (Grows root growth) = false
 

@@ -17,7 +17,9 @@ use Rattle.typed_tree.specs.Calls.{passed_step_holds_call, whole_holds_call}
 use Rattle.typed_tree.specs.WellFormed.{whole_indexes}
 use Rattle.checker_state.specs.Conditions.{Condition, Conjunct, bound_form, condition_of, condition_step, conjunct_of, link_condition, operand_of}
 use Rattle.checker_state.specs.Conditions.{passed_condition}
-use Rattle.checker_state.specs.Forms.{Form, Operand, bound_of, chain_form, sign_form}
+use Rattle.domain.specs.declared.versions.Version.{Version}
+use Rattle.checker_state.specs.declared.forms.Form.{Form}
+use Rattle.checker_state.specs.Forms.{Operand, bound_of, chain_form, sign_form}
 use Rattle.checker_expressions.specs.Walk as walk
 use Rattle.checker_expressions.specs.Walk.{Joint, PassedPiece, Piece, joint_of, link_step, passed_piece_of, passed_step, piece_of, piece_step}
 
@@ -171,8 +173,8 @@ passed-holds =
     (rolled-operand (bare_link y) (λ ordinal. operand-layer ordinal y) y.operand.1.holds))
 
 -- the bound of the form of an expression
-pub bound-same : (ordinal : ℕ → Bool) (e : Expr) → walk.form_by ordinal (piece_of e) ≡ bound_form ordinal e
-bound-same ordinal e = ap bound_of ((form-same e).form ordinal)
+pub bound-same : (ordinal : ℕ → Bool) (version : Version) (e : Expr) → walk.form_by ordinal version (piece_of e) ≡ bound_form ordinal version e
+bound-same ordinal version e = ap (bound_of version) ((form-same e).form ordinal)
 
 -- a whole value holds a call, or expressions, where the walk knows it
 pub pieces-hold : (expressions : List Expr) → walk.hold_call (map piece_of expressions) ≡ hold_call expressions

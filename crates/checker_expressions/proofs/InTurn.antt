@@ -12,6 +12,7 @@ use Rattle.typed_tree.specs.declared.tree.Passed.{Passed}
 use Rattle.typed_tree.specs.declared.tree.Selector.{Selector}
 use Rattle.typed_tree.specs.Entries.{joined}
 use Rattle.domain.specs.Interval.{Interval}
+use Rattle.domain.specs.declared.versions.Version.{Version}
 use Rattle.checker_rows.specs.Rows.{is_ordinal_variable}
 use Rattle.checker_state.specs.State.{State}
 use Rattle.checker_state.specs.Stores.{Index, Reach}
@@ -60,14 +61,14 @@ turn-end items i left flow past =
 -- ---- index expressions
 
 -- an index, by the form of its expression, if none of those behind it holds a call, and by where it lies
-abbrev pub index_at : (ordinal : ℕ → Bool) → Expr → List Expr → Interval → Index
-index_at ordinal index more range = record { form = form_before_by ordinal (piece_of index) (index_pieces more); range = range }
+abbrev pub index_at : (ordinal : ℕ → Bool) → Version → Expr → List Expr → Interval → Index
+index_at ordinal version index more range = record { form = form_before_by ordinal version (piece_of index) (index_pieces more); range = range }
 
 -- the index expressions behind one of them, by where that lies
 abbrev behind_walk : List Selector → Expr → List Expr → Reach → Interval → Walking Reach
 behind_walk selectors index more reach range context =
     indexes_walk (behind_next selectors) (index_pieces more)
-    (deeper (is_kept context.version selectors) (index_at (is_ordinal_variable context.tree) index more range) reach) context
+    (deeper (is_kept context.version selectors) (index_at (is_ordinal_variable context.tree) context.version index more range) reach) context
 
 -- which variables are ordinals where a flow is
 abbrev pub ordinal_in : Flow → ℕ → Bool
@@ -77,7 +78,8 @@ pub index-step : (selectors : List Selector) (items : List Expr) (i : ℕ) (inde
     {old mid tested new : Flow} {result : Reach} → i < length items → index ≡ get_or items i index → FlowGoes (value_walk index) old mid known
     → FlowGoes (index_test (next_test selectors) known) mid tested range
     → FlowGoes (indexes_walk (behind_next selectors) (index_pieces (drop (i + 1) items))
-    (deeper (is_kept tested.grounds.version selectors) (index_at (ordinal_in tested) index (drop (i + 1) items) range) reach)) tested new result
+    (deeper (is_kept tested.grounds.version selectors) (index_at (ordinal_in tested) tested.grounds.version index (drop (i + 1) items) range) reach)) tested new
+    result
     → FlowGoes (indexes_walk selectors (index_pieces (drop i items)) reach) old new result
 index-step selectors items i index reach {known = known} {range = range} {tested = tested} inside is one two three =
     let more = drop (i + 1) items in
@@ -86,7 +88,7 @@ index-step selectors items i index reach {known = known} {range = range} {tested
     (goes-then (value_walk index) (λ known. index_test (next_test selectors) known >>= behind) one
     (goes-then (index_test (next_test selectors) known) behind two
     (goes-alike (indexes_walk (behind_next selectors) (index_pieces more)
-    (deeper (is_kept tested.grounds.version selectors) (index_at (ordinal_in tested) index more range) reach)) (behind range)
+    (deeper (is_kept tested.grounds.version selectors) (index_at (ordinal_in tested) tested.grounds.version index more range) reach)) (behind range)
     (λ claims. refl) three)))
 
 pub index-end : (selectors : List Selector) (items : List Expr) (i : ℕ) (reach : Reach) (flow : Flow) → length items ≤ i

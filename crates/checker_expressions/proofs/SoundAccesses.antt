@@ -44,6 +44,7 @@ use Rattle.meaning.specs.Meaning.{Evaluation, Surroundings, accessed, begun, sel
 use Rattle.checker_state.specs.declared.value.Known.{Known}
 use Rattle.checker_state.specs.Bounds.{Bound}
 use Rattle.domain.specs.Interval.{HasMember, Interval}
+use Rattle.domain.specs.declared.versions.Version.{Version}
 use Rattle.types.specs.declared.form.OrdinalRange.{OrdinalRange}
 use Rattle.meaning.specs.Integers.{is_integer_number, is_within}
 use Rattle.checker_state.specs.Holds.{HasValue, HoldNumbers, IsBound, IsIn, IsOfRow, Moment, moment, part_of, value_at}
@@ -162,8 +163,8 @@ required-true false site s t done is = absurd (cc)
 pub record IndexIsSound (world : World) (block : ℕ) (env : Surroundings) (evaluation : Evaluation) (piece : Piece) : Type 0 where
   pub sound : Sound world block env.visible (IsHeld scalar.Ordinal) (evaluation env) piece.walk
   pub leaves : piece.holds_call ≡ false → SoundLeaves (evaluation env)
-  pub form : (s t : effect.State) (v : Value) → evaluation env s ≡ effect.Gives v t → HoldNumbers (ordinal_in world) (moment env.visible t.store)
-      → IsOfForm (moment env.visible t.store) (form_by (ordinal_in world) piece) v
+  pub form : (version : Version) (s t : effect.State) (v : Value) → evaluation env s ≡ effect.Gives v t
+      → HoldNumbers (ordinal_in world) (moment env.visible t.store) → IsOfForm (moment env.visible t.store) (form_by (ordinal_in world) version piece) v
 
 abbrev pub AllSound : World → ℕ → Surroundings → List Evaluation → List Piece → Type 0
 AllSound world block env [] [] = Unit {0}
@@ -547,60 +548,62 @@ module _ (world : World) (block : ℕ) (env : Surroundings) where
       let site = and_parts (nat_lt fits.site (sites_in world)) (is_whole fits.range.first && is_whole fits.range.last) first.0 in
       let test = λ (v : Value). effect.require (is_in fits.range v) fits.site in
       let inner_of = λ (v : Value). part place (step.Element (number_of v) ∷ []) in
-      let index_by = λ (ordinal : ℕ → Bool) (range : Interval). (let one : Index = record {
-        form = form_before_by ordinal index pieces;
+      let index_by = λ (ordinal : ℕ → Bool) (version : Version) (range : Interval). (let one : Index = record {
+        form = form_before_by ordinal version index pieces;
         range = range;
       } in one) in
       let index_of = index_by (ordinal_in world) in
-      let reached_by = λ (keeps : Bool) (range : Interval). deeper keeps (index_of range) reach in
-      let walk_by = λ (keeps : Bool) (range : Interval) (tree : Tree).
-      indexes_walk selectors pieces (deeper keeps (index_by (is_ordinal_variable tree) range) reach) in
-      let kept = λ (context : Context). is_kept context.version walked in
+      let kept = λ (version : Version). is_kept version walked in
+      let reached_by = λ (version : Version) (range : Interval). deeper (kept version) (index_of version range) reach in
+      let walk_by = λ (version : Version) (range : Interval) (tree : Tree).
+      indexes_walk selectors pieces (deeper (kept version) (index_by (is_ordinal_variable tree) version range) reach) in
       let from = λ (test : Option RangeTest) (behind : List Selector). SoundFrom world block visible store R
       (selected (Element fits cells ∷ selectors) (evaluation ∷ evaluations) env place) (walk.◌>>=◌ index.walk (λ known. walk.◌>>=◌ (index_test test known)
-      (λ range context. indexes_walk behind pieces (deeper (kept context) (index_by (is_ordinal_variable context.tree) range) reach) context))) in
+      (λ range context.
+      indexes_walk behind pieces (deeper (kept context.version) (index_by (is_ordinal_variable context.tree) context.version range) reach) context))) in
       let one_more : List Selector = Element fits cells ∷ [] in
       subst (λ (test : Option RangeTest). from test (behind_next walked)) (sym test_is)
       (subst (λ (behind : List Selector). from (Some fits) behind) (sym behind_is)
       (from-held world block visible store (IsHeld scalar.Ordinal) R (evaluation env)
       (λ v. effect.◌>>=◌ (test v) (λ tested. selected selectors evaluations env (inner_of v))) index.walk
-      (λ known. walk.◌>>=◌ (index_test (Some fits) known) (λ range context. walk_by (kept context) range context.tree context))
+      (λ known. walk.◌>>=◌ (index_test (Some fits) known) (λ range context. walk_by context.version range context.tree context))
       (sound-here world block visible store (IsHeld scalar.Ordinal) (evaluation env) index.walk all.0.sound)
       (λ known v s t is from inside numbers.
-      let own = form_by (ordinal_in world) index in
-      let form : IsOfForm (moment visible t.store) own v = all.0.form s t v is numbers in
+      let own = λ (version : Version). form_by (ordinal_in world) version index in
+      let form : (version : Version) → IsOfForm (moment visible t.store) (own version) v = λ version. all.0.form version s t v is numbers in
       let reached_now : IsReachedBy visible t.store before leads.way reach =
       later-reached visible store t.store before leads.way reach index.holds_call (λ without. all.0.leaves without s t v is ∙ from)
       (λ holds. formless (or_left index.holds_call (hold_call pieces) holds)) leads.reached in
       from-then world block visible t.store (LiesWithin v) R (test v) (λ tested. selected selectors evaluations env (inner_of v)) (index_test (Some fits) known)
-      (λ range context. walk_by (kept context) range context.tree context)
+      (λ range context. walk_by context.version range context.tree context)
       (sound-here world block visible t.store (LiesWithin v) (test v) (index_test (Some fits) known)
       (tested-sound fits known v (ltb-true fits.site (sites_in world) site.0) inside.0 inside.1))
       (λ range tested s2 u passes same lies.
       let bounds = in-test fits.range v (subst (λ (one : Scalar). IsOf one v) inside.1 (known-of known v inside.0))
       (required-true (is_in fits.range v) fits.site s2 u tested passes) in
       let stays : u.store ≡ t.store = required-leaves (is_in fits.range v) fits.site s2 u tested passes ∙ same in
-      let leads_on : (keeps : Bool) → LeadsBy root (before ++ one_more) (reached_by keeps range) (inner_of v) t.store = λ keeps. record {
+      let leads_on : (version : Version) → LeadsBy root (before ++ one_more) (reached_by version range) (inner_of v) t.store = λ version. record {
         way = leads.way ++ step.Element (number_of v) ∷ [];
         place_is = behind root leads.way (step.Element (number_of v)) place leads.place_is;
         matches = matches-then before one_more leads.way (step.Element (number_of v) ∷ []) leads.matches (bounds.0, bounds.1, tt);
-        reached = behind-element visible t.store before leads.way fits cells (number_of v) (index_of range)
+        reached = behind-element visible t.store before leads.way fits cells (number_of v) (index_of version range)
             (record {
               in_range = lies;
-              of_form = form-unless (moment visible t.store) own (hold_call pieces) (number_of v)
-                  (of-form (moment visible t.store) own v form);
-            }) leads.matches keeps reach begun reached_now;
+              of_form = form-unless (moment visible t.store) (own version) (hold_call pieces) (number_of v)
+                  (of-form (moment visible t.store) (own version) v (form version));
+            }) leads.matches (kept version) reach begun reached_now;
       } in
-      let by_tree = λ (keeps : Bool).
-      sound-by_tree world block visible u.store R (selected selectors evaluations env (inner_of v)) (walk_by keeps range)
+      let by_tree = λ (version : Version).
+      sound-by_tree world block visible u.store R (selected selectors evaluations env (inner_of v)) (walk_by version range)
       (subst (λ (list : List Selector). SoundFrom world block visible u.store (LeadsBy root list) (selected selectors evaluations env (inner_of v))
-      (indexes_walk selectors pieces (reached_by keeps range))) (append_assoc before one_more selectors)
-      (selected-sound root selectors evaluations pieces all.1 (omega (arith, count)) first.1 u.store (before ++ one_more) (reached_by keeps range) (inner_of v)
-      (subst (λ (x : Store). LeadsBy root (before ++ one_more) (reached_by keeps range) (inner_of v) x) (sym stays) (leads_on keeps))
-      (begun-deeper keeps (index_of range) reach begun)
-      (formless-deeper keeps own range (hold_call pieces) reach
+      (indexes_walk selectors pieces (reached_by version range))) (append_assoc before one_more selectors)
+      (selected-sound root selectors evaluations pieces all.1 (omega (arith, count)) first.1 u.store (before ++ one_more)
+      (reached_by version range) (inner_of v)
+      (subst (λ (x : Store). LeadsBy root (before ++ one_more) (reached_by version range) (inner_of v) x) (sym stays) (leads_on version))
+      (begun-deeper (kept version) (index_of version range) reach begun)
+      (formless-deeper (kept version) (own version) range (hold_call pieces) reach
       (λ holds. formless (or_right index.holds_call (hold_call pieces) holds))) selectors refl refl)) in
-      λ context. by_tree (kept context) context))))
+      λ context. by_tree context.version context))))
 
   -- what is reached where an access begins
   reached-begun : (store : Store) (origin : Origin) {place : Option Place} (begins : Begins world block visible origin place)

@@ -64,6 +64,7 @@ use Rattle.meaning.specs.Meaning as meaning
 use Rattle.meaning.specs.Meaning.{Evaluation, Passing, Surroundings, accessed, link_of, parameter_of, passing_of, value_of, values_of, width_of, written_of}
 use Rattle.checker_state.specs.Bounds.{Bound}
 use Rattle.domain.specs.Interval.{HasMember, Interval, truth_values}
+use Rattle.domain.specs.declared.versions.Version.{Version}
 use Rattle.checker_rows.specs.Rows.{is_ordinal_variable}
 use Rattle.checker_state.specs.declared.value.Known.{Known}
 use Rattle.checker_state.specs.declared.value.Known.TheVariants.{Set}
@@ -348,9 +349,9 @@ module _ (world : World) (block : ℕ) (env : Surroundings) (records : List Open
   index-sound e sound = record {
     sound = sound;
     leaves = λ quiet s t v is. expression-kept e (sym (form-same e).holds ∙ quiet) env s t v is;
-    form = λ s t v is numbers.
-        subst (λ (bound : Option Bound). IsOfForm (moment visible t.store) bound v) (sym (bound-same (ordinal_in world) e))
-        (forms-tell (ordinal_in world) e env s t v is numbers);
+    form = λ version s t v is numbers.
+        subst (λ (bound : Option Bound). IsOfForm (moment visible t.store) bound v) (sym (bound-same (ordinal_in world) version e))
+        (forms-tell (ordinal_in world) version e env s t v is numbers);
   }
 
   proved-indexes : (parts : List ProvedExpr) → all_hold (map well_expr (map (λ e. e.0) parts)) ≡ true
@@ -428,8 +429,9 @@ module _ (world : World) (block : ℕ) (env : Surroundings) (records : List Open
       let Q = IsHeld fits.tests in
       let test = λ (v : Value). effect.require (is_in fits.range v) fits.site in
       let next = λ (v : Value). effect.◌>>=◌ (test v) (λ tested. effect.give (meaning.OfValue v)) in
-      let given_by = λ (passed : Known) (tree : Tree). walk.give (OfValue (known_range passed) (form_by (is_ordinal_variable tree) (piece_of value))) in
-      let walked = λ (known : Known). walk.◌>>=◌ (walk.fitting fits known) (λ passed context. given_by passed context.tree context) in
+      let given_by = λ (passed : Known) (version : Version) (tree : Tree).
+      walk.give (OfValue (known_range passed) (form_by (is_ordinal_variable tree) version (piece_of value))) in
+      let walked = λ (known : Known). walk.◌>>=◌ (walk.fitting fits known) (λ passed context. given_by passed context.version context.tree context) in
       record {
         sound = sound-anywhere world block visible R (effect.◌>>=◌ (value_of value env) next) (walk.◌>>=◌ (value_walk value) walked)
             (λ store.
@@ -438,19 +440,19 @@ module _ (world : World) (block : ℕ) (env : Surroundings) (records : List Open
             (sound both.0 fits.tests (held-is fits.tests (held_by value) held) begin))
             (λ known v s t is from inside numbers.
             from-then world block visible t.store (IsFitting known v) R (test v) (λ tested. effect.give (meaning.OfValue v)) (walk.fitting fits known)
-            (λ passed context. given_by passed context.tree context)
+            (λ passed context. given_by passed context.version context.tree context)
             (sound-here world block visible t.store (IsFitting known v) (test v) (walk.fitting fits known)
             (fitting-sound world block visible fits known v (ltb-true fits.site (sites_in world) site.0) inside.0))
-            (λ passed done s2 u gives same lies.
-            sound-by_tree world block visible u.store R (effect.give (meaning.OfValue v)) (given_by passed)
+            (λ passed done s2 u gives same lies at.
+            sound-by_tree world block visible u.store R (effect.give (meaning.OfValue v)) (given_by passed at.version)
             (λ context state s3 now unbroken part here.
             let passes = required-true (is_in fits.range v) fits.site s2 u done gives in
             let stays : s3.store ≡ t.store = now ∙ required-leaves (is_in fits.range v) fits.site s2 u done gives ∙ same in
-            let own = form_by (ordinal_in world) (piece_of value) in
+            let own = form_by (ordinal_in world) at.version (piece_of value) in
             let form : IsOfForm (moment visible s3.store) own v =
             subst (λ (x : Store). IsOfForm (moment visible x) own v) (sym stays)
-            (subst (λ (bound : Option Bound). IsOfForm (moment visible t.store) bound v) (sym (bound-same (ordinal_in world) value))
-            (forms-tell (ordinal_in world) value env s t v is numbers)) in
+            (subst (λ (bound : Option Bound). IsOfForm (moment visible t.store) bound v) (sym (bound-same (ordinal_in world) at.version value))
+            (forms-tell (ordinal_in world) at.version value env s t v is numbers)) in
             good-give world
             (IsForetold world visible R context (walk.give (OfValue (known_range passed) own) context state) s3.store)
             (meaning.OfValue v) s3 here.fine (record {
@@ -464,7 +466,7 @@ module _ (world : World) (block : ℕ) (env : Surroundings) (records : List Open
               };
               stands = here.stands;
               kept = keeps-itself visible context.rounds s3.store;
-            })))));
+            })) at)));
         leaves = λ quiet s t argument is.
             let first = then-gives (value_of value env s) next argument t is in
             let second = then-gives (test first.1 first.0) (λ tested. effect.give (meaning.OfValue first.1)) argument t first.3 in

@@ -46,7 +46,7 @@ use Rattle.typed_tree.specs.declared.tree.Expr.TheFolds.{fold-Expr, fold-Passed,
 use Rattle.typed_tree.specs.Accesses.{Origin, origin_of, steps_of}
 use Rattle.typed_tree.specs.WellFormed.{of_one, whole_indexes}
 use Rattle.domain.specs.Versions.{has}
-use Rattle.domain.specs.declared.versions.Extension.TheVariants.{Blocks}
+use Rattle.domain.specs.declared.versions.Extension.TheVariants.{Blocks, Boxes}
 use Rattle.domain.specs.declared.versions.Version.{Version}
 use Rattle.domain.specs.Interval.{Interval, is_included, has_number, common, sum, difference, negated, product, squared}
 use Rattle.domain.specs.Interval.{absolute, quotient, remainder, without_zero_end, at_least, both, either}
@@ -65,7 +65,10 @@ use Rattle.checker_state.specs.Values.{is_closed_member, is_closed_range, known_
 use Rattle.checker_state.specs.Values.{tested_member, unless_none, with_member, with_members}
 use Rattle.checker_rows.specs.Limits.{integer, limits_of}
 use Rattle.checker_state.specs.State.{State, is_dead, range_of, unless_empty, with_defined}
-use Rattle.checker_state.specs.Forms.{Form, Literal, Other, Operand, access_form, bound_of, chain_form, sign_form}
+use Rattle.checker_state.specs.declared.forms.Form.{Form}
+use Rattle.checker_state.specs.declared.forms.Form.TheVariants.{Fixed, Other}
+use Rattle.checker_state.specs.declared.forms.Spelling.TheVariants.{Literal}
+use Rattle.checker_state.specs.Forms.{Operand, access_form, bound_of, chain_form, sign_form}
 use Rattle.checker_rows.specs.Rows.{is_ordinal_variable, rows_accessed}
 use Rattle.checker_state.specs.Stores.{Index, Reach, entire, gives_reached, is_entire}
 use Rattle.checker_state.specs.Loops.{is_among}
@@ -383,20 +386,20 @@ pub record PassedPiece : Type 0 where
 abbrev pub hold_call : List Piece → Bool
 hold_call pieces = list_any (λ piece. piece.holds_call) pieces
 
--- the bound form of an expression, by which variables are ordinals
-abbrev pub form_by : (ordinal : ℕ → Bool) → Piece → Option Bound
-form_by ordinal piece = bound_of (piece.form ordinal)
+-- the bound form of an expression, by which variables are ordinals, and by the rules of a version
+abbrev pub form_by : (ordinal : ℕ → Bool) → Version → Piece → Option Bound
+form_by ordinal version piece = bound_of version (piece.form ordinal)
 
 -- the same, where others were evaluated behind it
-abbrev pub form_before_by : (ordinal : ℕ → Bool) → Piece → List Piece → Option Bound
-form_before_by ordinal piece later = if hold_call later then None else form_by ordinal piece
+abbrev pub form_before_by : (ordinal : ℕ → Bool) → Version → Piece → List Piece → Option Bound
+form_before_by ordinal version piece later = if hold_call later then None else form_by ordinal version piece
 
 -- so it is in a program
 abbrev pub form_in : Context → Piece → Option Bound
-form_in context piece = form_by (is_ordinal_variable context.tree) piece
+form_in context piece = form_by (is_ordinal_variable context.tree) context.version piece
 
 abbrev pub form_before : Context → Piece → List Piece → Option Bound
-form_before context piece later = form_before_by (is_ordinal_variable context.tree) piece later
+form_before context piece later = form_before_by (is_ordinal_variable context.tree) context.version piece later
 
 -- an index is tested, if selectors take it: where it lies then
 abbrev pub index_test : Option RangeTest → Known → Walking Interval
@@ -411,9 +414,10 @@ begin_at_element [] = false
 begin_at_element (Element fits cells ∷ selectors) = true
 begin_at_element (Field position offset ∷ selectors) = false
 
--- it is kept behind another: in a version with blocks an access keeps the second index of a matrix
+-- it is kept behind another: in a version with blocks an access keeps the second index of a matrix, and in one with
+-- boxes any second index
 abbrev pub is_kept : Version → List Selector → Bool
-is_kept version selectors = has version Blocks && begin_at_element selectors
+is_kept version selectors = has version Boxes || (has version Blocks && begin_at_element selectors)
 
 -- what is reached with one index more: the first is kept, and one right behind it, if that is to be
 abbrev pub deeper_by : (keeps : Bool) → Index → List Index → Reach → Reach
@@ -759,7 +763,7 @@ walk_step (Input number asks) = do
 
 -- and its form
 abbrev pub form_step : Expr-F Piece PassedPiece Joint → (ordinal : ℕ → Bool) → Form
-form_step (Constant number value) ordinal = Literal value
+form_step (Constant number value) ordinal = Fixed Literal value
 form_step (Variable access indexes holds defined) ordinal =
     access_form ordinal (origin_of access) access.selectors.items
 form_step (SetOf number designators members) ordinal = Other

@@ -232,7 +232,12 @@ impl<'a> Flow<'a> {
             let index = &indexes[i];
             let known = self.expression(index, visits);
             let range = self.index(next_test(left), known);
-            let form = form_before(self.state.table(), index, &indexes[i + 1..]);
+            let form = form_before(
+                self.grounds.version,
+                self.state.table(),
+                index,
+                &indexes[i + 1..],
+            );
             let keeps = is_kept(self.grounds.version, left);
             reach = deeper(keeps, Index { form, range }, reach);
             left = behind_next(left);
@@ -304,7 +309,7 @@ impl<'a> Flow<'a> {
                 let range = self.fitting(*fits, known).range();
                 Actual::Value {
                     range,
-                    form: bound_form(self.state.table(), value),
+                    form: bound_form(self.grounds.version, self.state.table(), value),
                 }
             }
             Passed::Whole { value, indexes, .. } => {
@@ -358,14 +363,14 @@ impl<'a> Flow<'a> {
 }
 
 /// The bound form of an index expression behind which others are evaluated: none, where one of these holds a call.
-fn form_before(rows: &Rows, index: &Expr, later: &[Expr]) -> Option<Bound>
+fn form_before(version: Version, rows: &Rows, index: &Expr, later: &[Expr]) -> Option<Bound>
     ensures { said_form result
-        ≡ form_before_by (is_ordinal_variable rows.now) (piece_of index.now) (index_pieces later.now) }
+        ≡ form_before_by (is_ordinal_variable rows.now) version (piece_of index.now) (index_pieces later.now) }
 {
     if hold_call(later) {
         None
     } else {
-        bound_form(rows, index)
+        bound_form(version, rows, index)
     }
 }
 
@@ -408,11 +413,11 @@ fn unknown_index() -> Index
 }
 
 /// Whether an access keeps the next index that selectors take behind another: in a version with blocks the second one
-/// of a matrix.
+/// of a matrix, in one with boxes any second one.
 fn is_kept(version: Version, selectors: &[Selector]) -> bool
     ensures { result ≡ is_kept version selectors.now }
 {
-    version.has(Extension::Blocks) && begin_at_element(selectors)
+    version.has(Extension::Boxes) || (version.has(Extension::Blocks) && begin_at_element(selectors))
 }
 
 /// Whether that is the index of an array itself, and not of a part of it.

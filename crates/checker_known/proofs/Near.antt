@@ -11,6 +11,8 @@ use Rattle.std.specs.declared.cmp.Ordering.TheVariants.{Less, Equal, Greater}
 use Rattle.std.proofs.lemmas.Bool.{and_parts, cases_Bool, cases_eq, cases_lt, eq-eqb, false≢true, false_from_ne_true, or_cases}
 use Rattle.std.proofs.lemmas.Int.{ints}
 use Rattle.std.proofs.lemmas.Map.Keys.{Less-from_sorted}
+use Rattle.domain.specs.declared.versions.Extension.TheVariants.{Boxes}
+use Rattle.domain.specs.Versions.{has}
 use Rattle.checker_state.specs.Bounds.{Bound, constant}
 use Rattle.checker_state.specs.State.{Facts, Held, Span, Stretch, bound_range, held_order, is_below, is_next, le, lies_below, says_at_most}
 use Rattle.checker_state.specs.State.{Live, span_order, stretch_in, stretched}
@@ -124,18 +126,29 @@ module _ (known : Facts) where
       let e = le-numbers c l two.1 in
       differ (grind (arith, ints)) (grind (arith, ints)))
 
+  -- a span of numbers that a number isn't beside doesn't become longer by it
+  span-stays : (c f l : ℤ) → (c ≡ l +ℤ pos 1 → ⊥) → (f ≡ c +ℤ pos 1 → ⊥) → longer_span known (constant c) (between f l) ≡ None
+  span-stays c f l behind before =
+      ap₂ (λ (first rest : Bool).
+      cond first (Some (record (between f l) { last = constant c })) (cond rest (Some (record (between f l) { first = constant c })) None))
+      (not-next l c behind) (not-next c f before)
+
+  both-none : (b : Bool) (nothing : Option Held) → cond b nothing nothing ≡ nothing
+  both-none true nothing = refl
+  both-none false nothing = refl
+
   -- a stretch of numbers that a number isn't beside, and that isn't just this number, stays as it is
   numbers-stay : (row : ℕ) (c f l : ℤ) (more : List Bound) (rest : List Span) → (c ≡ l +ℤ pos 1 → ⊥) → (f ≡ c +ℤ pos 1 → ⊥) → (f ≡ c → l ≡ c → ⊥)
       → longer_by known row (constant c ∷ more) (between f l ∷ rest) ≡ None
-  numbers-stay row c f l [] [] behind before at =
-      ap₂ (λ (first rest : Bool).
-      longer_of row []
-      (cond first (Some (record (between f l) { last = constant c })) (cond rest (Some (record (between f l) { first = constant c })) None)))
-      (not-next l c behind) (not-next c f before)
+  numbers-stay row c f l [] [] behind before at = ap (longer_of row [] []) (span-stays c f l behind before)
   numbers-stay row c f l [] (span ∷ rest) behind before at = refl
   numbers-stay row c f l (two ∷ []) [] behind before at = refl
   numbers-stay row c f l (two ∷ []) (span ∷ []) behind before at =
-      ap (λ (b : Bool). cond b (longer_of row (constant c ∷ []) (longer_span known two span)) None) (not-at c f l at)
+      let beside = longer_of row (constant c ∷ []) [] (longer_span known two span) in
+      let column = longer_of row [] (two ∷ []) in
+      let is_column = has known.rules Boxes && is_at known two span in
+      ap₂ (λ (is : Bool) (longer : Option Span). cond is beside (cond is_column (column longer) None)) (not-at c f l at) (span-stays c f l behind before)
+      ∙ both-none is_column None
   numbers-stay row c f l (two ∷ []) (span ∷ next ∷ rest) behind before at = refl
   numbers-stay row c f l (two ∷ third ∷ more) rest behind before at = refl
 
@@ -152,10 +165,6 @@ module _ (known : Facts) where
       ∙ numbers-stay row c n.first n.last more n.rest (λ is. behind (is ∙ ap (λ (l : ℤ). l +ℤ pos 1) (sym last))) (λ is. before (first ∙ is))
       (λ one two. at (first ∙ one) (last ∙ two)))
       ∙ both-none (nat_eq s.row row) None
-    where
-      both-none : (b : Bool) (nothing : Option Held) → cond b nothing nothing ≡ nothing
-      both-none true nothing = refl
-      both-none false nothing = refl
 
   far-stays : (row : ℕ) (c : ℤ) (more : List Bound) (one : Held) → Numbers (spans_of one) → (c ≡ last_of (spans_of one) +ℤ pos 1 → ⊥)
       → (first_of (spans_of one) ≡ c +ℤ pos 1 → ⊥) → (first_of (spans_of one) ≡ c → last_of (spans_of one) ≡ c → ⊥)

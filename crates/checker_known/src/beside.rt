@@ -1,4 +1,6 @@
 ghost use Rattle.std.specs.Prelude.{◌≡◌, ◌+◌, ◌<◌, ◌&&◌, IfOk, length, map, take};
+ghost use Rattle.domain.specs.declared.versions.Extension.TheVariants.{Boxes};
+ghost use Rattle.domain.specs.Versions.{has};
 ghost use Rattle.checker_state.specs.State.{le};
 ghost use Rattle.checker_state.specs.Stores.{is_at, longer, longer_by, longer_span};
 ghost use Rattle.checker_known.specs.Longer.{AreLonger};
@@ -8,6 +10,7 @@ ghost use Rattle.checker_state.specs.View.{said_spans};
 
 use crate::Knowledge;
 use checker_state::{Bound, Held, Point, Span, Stretch};
+use domain::Extension;
 use std::alloc::{AllocError, Global};
 
 /// What becomes longer where first indexes of a row become defined: where it stands, and what becomes of it.
@@ -82,11 +85,15 @@ impl Knowledge {
                 Some(Held::within(stretch.row, span, None))
             }
             (Some(index), Some(inner)) => {
-                if !self.is_at(point.index, stretch.span) {
+                if self.is_at(point.index, stretch.span) {
+                    let inner = self.longer_span(index, inner)?;
+                    return Some(Held::within(stretch.row, Span::at(point.index), Some(inner)));
+                }
+                if !self.is_column_at(index, inner) {
                     return None;
                 }
-                let inner = self.longer_span(index, inner)?;
-                Some(Held::within(stretch.row, Span::at(point.index), Some(inner)))
+                let span = self.longer_span(point.index, stretch.span)?;
+                Some(Held::within(stretch.row, span, Some(Span::at(index))))
             }
             _ => None,
         }
@@ -97,6 +104,14 @@ impl Knowledge {
         ensures { result ≡ is_at (viewed (core self.now)) (said_bound index) (said_span span) }
     {
         self.is_same(span.first, index) && self.is_same(span.last, index)
+    }
+
+    // Whether a second span has just one index, where a stretch may become longer by a first one.
+    fn is_column_at(&self, index: Bound, inner: Span) -> bool
+        ensures { result
+            ≡ (has self.now.rules Boxes && is_at (viewed (core self.now)) (said_bound index) (said_span inner)) }
+    {
+        self.rules.has(Extension::Boxes) && self.is_at(index, inner)
     }
 
     // Whether two bounds are known to be the same.

@@ -11,6 +11,7 @@ use Rattle.typed_tree.specs.declared.tree.RangeTest.{RangeTest}
 use Rattle.typed_tree.specs.Calls.{holds_call}
 use Rattle.typed_tree.specs.declared.tree.Relation.{Relation}
 use Rattle.typed_tree.specs.declared.tree.Relation.TheVariants as relation
+use Rattle.domain.specs.declared.versions.Version.{Version}
 use Rattle.domain.specs.Interval.{Interval, at_least, at_most, difference, sum}
 use Rattle.checker_state.specs.Bounds.{Bound, plus}
 use Rattle.checker_state.specs.declared.value.Known.{Known}
@@ -33,16 +34,16 @@ pub record Way : Type 0 where
   pub first : End
   pub last : End
 
--- by what is told of variables, which of them are ordinals
-module _ (ordinal : ℕ → Bool) where
+-- by what is told of variables, which of them are ordinals, and by the rules of a version
+module _ (ordinal : ℕ → Bool) (version : Version) where
   -- a bound with what is known of its value
   abbrev pub end_of : Fitted → Known → End
   end_of bound known =
-      record { form = bound_form ordinal bound.value; fits = bound.fits; values = known_range known }
+      record { form = bound_form ordinal version bound.value; fits = bound.fits; values = known_range known }
 
   -- the form of an expression behind which another was evaluated
   abbrev pub form_before : Expr → (later : Expr) → Option Bound
-  form_before expression later = if holds_call later then None else bound_form ordinal expression
+  form_before expression later = if holds_call later then None else bound_form ordinal version expression
 
   -- the way of a for statement, from what is known of the values of its bounds
   abbrev pub way_of : ForHead → (from to : Known) → Way

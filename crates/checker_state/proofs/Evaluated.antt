@@ -35,6 +35,7 @@ use Rattle.meaning.specs.Effect as effect
 use Rattle.meaning.specs.Effect.{Action, Reply, Gives, Stops, and_then, fetch, fetch_all, is_in, number_of}
 use Rattle.meaning.specs.Meaning as meaning
 use Rattle.meaning.specs.Meaning.{Evaluation, Surroundings, accessed, selected, whole_of}
+use Rattle.checker_state.specs.Forms.{result_of}
 
 -- ---- replies that give a value
 
@@ -45,11 +46,6 @@ pub then-gives : {A B : Type 0} (reply : Reply A) (next : A → effect.State →
     → (a : A) × (u : effect.State) × (reply ≡ Gives a u) × (next a u ≡ Gives b t)
 then-gives (Gives a u) next b t is = (a, u, refl, is)
 then-gives (Stops ending u) next b t is = absurd (cc)
-
--- the number that an operation on one operand gives
-abbrev pub result_of : Monadic → ℤ → ℤ
-result_of (monadic.Plain does) n = meaning.calculated does n
-result_of (monadic.Tested fits does) n = meaning.shifted does n
 
 -- ---- operations change no variable
 

@@ -1,27 +1,31 @@
--- The forms of expressions, one by one: what the form of a chain of operators, or of an access, isn't.
-use Rattle.std.proofs.Common.{rules, ◌≡◌, ◌∙◌, sym, ap, refl, ℕ, ℤ, Bool, true, false, cond, List, [], ◌∷◌, map, Option, Some, None}
+-- The conditions of expressions, one by one.
+use Rattle.std.proofs.Common.{arith, rules, ◌≡◌, ◌∙◌, sym, ap, refl, ℕ, suc, ◌+◌, ◌<◌, ◌==◌, ℤ, neg_ℤ, Bool, false, List, [], ◌∷◌, map, length}
+use Rattle.std.proofs.Common.{get_or, drop, drop-cons, Option, Some, None}
+use Rattle.meaning.specs.Integers.{integer_or_none}
+use Rattle.typed_tree.specs.declared.tree.Dyadic.{Dyadic}
+use Rattle.typed_tree.specs.declared.tree.Dyadic.TheVariants as dyadic
 use Rattle.std.specs.declared.boxed.Box.{Box}
 use Rattle.std.specs.declared.vec.Vec.{Vec}
 use Rattle.std.specs.declared.alloc.Global.{Global}
 use Rattle.typed_tree.specs.declared.tree.Scalar.{Scalar}
 use Rattle.typed_tree.specs.declared.tree.Access.{Access}
-use Rattle.typed_tree.specs.declared.tree.Selector.{Selector}
 use Rattle.typed_tree.specs.declared.tree.Monadic.{Monadic}
-use Rattle.typed_tree.specs.declared.tree.Dyadic.{Dyadic}
-use Rattle.typed_tree.specs.declared.tree.Dyadic.TheVariants as dyadic
 use Rattle.typed_tree.specs.declared.tree.Expr.{Expr}
 use Rattle.typed_tree.specs.declared.tree.Link.{Link}
 use Rattle.typed_tree.specs.declared.tree.Expr.TheVariants as expr
 use Rattle.typed_tree.specs.declared.tree.Expr.TheFolds.{the_lemmas}
-use Rattle.typed_tree.specs.Accesses.{Origin, AtVariable, AtRecord, origin_of}
+use Rattle.typed_tree.specs.Accesses.{origin_of}
 use Rattle.checker_state.specs.State.{State}
-use Rattle.checker_state.specs.Forms.{Form, Entire, Literal, Operand, Other, access_form, chain_form, chain_form_of, constant_of, literal_of}
-use Rattle.checker_state.specs.Forms.{moved_form, negative}
-use Rattle.checker_state.specs.Forms.{offset_form, root_of, sign_form}
-use Rattle.checker_state.specs.Conditions.{Condition, chain_refined, condition_of, conjunct_of, monadic_refined, operand_of}
+use Rattle.checker_state.specs.declared.forms.Form.{Form}
+use Rattle.checker_state.specs.declared.forms.Form.TheVariants.{Fixed, Entire, Other}
+use Rattle.checker_state.specs.declared.forms.Spelling.{Spelling}
+use Rattle.checker_state.specs.declared.forms.Spelling.TheVariants.{Literal, Computed}
+use Rattle.checker_state.specs.Forms.{Operand, access_form, chain_form, computed, fixed_form, moved_form, offset_form, operated_form, operated_spelling}
+use Rattle.checker_state.specs.Forms.{result_of, root_of, sign_form}
+use Rattle.checker_state.specs.Conditions.{Condition, Conjunct, chain_refined, condition_of, conjunct_of, monadic_refined, operand_of}
 
 pub condition-Constant : (ordinal : ℕ → Bool) (number : ℕ) (value : ℤ)
-    → condition_of ordinal (expr.Constant number value) ≡ record { form = Literal value; refined = λ (truth : Bool) (state : State). state }
+    → condition_of ordinal (expr.Constant number value) ≡ record { form = Fixed Literal value; refined = λ (truth : Bool) (state : State). state }
 condition-Constant ordinal number value = search (rules, the_lemmas)
 
 pub condition-Variable : (ordinal : ℕ → Bool) (access : Access) (indexes : Vec Expr Global) (holds : Scalar) (defined : ℕ)
@@ -46,74 +50,75 @@ pub conjunct-is : (ordinal : ℕ → Bool) (link : Link)
     → conjunct_of ordinal link ≡ record { operation = link.operation; right = condition_of ordinal link.operand }
 conjunct-is ordinal link = search (rules, the_lemmas)
 
--- neither a constant nor a variable alone
-pub record IsNoPart (form : Form) : Type 0 where
-  pub no_root : None ≡ root_of form
-  pub no_literal : None ≡ literal_of form
-  pub no_constant : None ≡ constant_of form
+-- ---- the forms of chains
 
-moved-no_part : (root : ℕ) (number : Option ℤ) → IsNoPart (moved_form root number)
-moved-no_part root None = record { no_root = refl; no_literal = refl; no_constant = refl }
-moved-no_part root (Some n) = record { no_root = refl; no_literal = refl; no_constant = refl }
+-- behind what is no part of a bound form no operator makes one
+pub other-chain : (links : List Operand) → chain_form Other links ≡ Other
+other-chain [] = refl
+other-chain (link ∷ links) = other-chain links
 
-offset-no_part : (root : ℕ) (operation : Dyadic) (constant : Option ℤ) → IsNoPart (offset_form root operation constant)
-offset-no_part root (dyadic.Plus overflow) constant = moved-no_part root constant
-offset-no_part root (dyadic.Minus overflow) constant = moved-no_part root (negative constant)
-offset-no_part root (dyadic.Times overflow) constant = record { no_root = refl; no_literal = refl; no_constant = refl }
-offset-no_part root (dyadic.Div by_zero) constant = record { no_root = refl; no_literal = refl; no_constant = refl }
-offset-no_part root (dyadic.Mod by_zero_or_less) constant = record { no_root = refl; no_literal = refl; no_constant = refl }
-offset-no_part root dyadic.And constant = record { no_root = refl; no_literal = refl; no_constant = refl }
-offset-no_part root dyadic.Or constant = record { no_root = refl; no_literal = refl; no_constant = refl }
-offset-no_part root (dyadic.Relation r) constant = record { no_root = refl; no_literal = refl; no_constant = refl }
-offset-no_part root dyadic.Union constant = record { no_root = refl; no_literal = refl; no_constant = refl }
-offset-no_part root dyadic.Difference constant = record { no_root = refl; no_literal = refl; no_constant = refl }
-offset-no_part root dyadic.Intersection constant = record { no_root = refl; no_literal = refl; no_constant = refl }
-offset-no_part root (dyadic.SetRelation r) constant = record { no_root = refl; no_literal = refl; no_constant = refl }
-offset-no_part root dyadic.In constant = record { no_root = refl; no_literal = refl; no_constant = refl }
+pub chain-begins : (ordinal : ℕ → Bool) (e : Expr) (first : Box Expr Global) (rest : Vec Link Global) → e ≡ expr.Chain first rest
+    → chain_form (condition_of ordinal first.value).form (map operand_of (map (conjunct_of ordinal) rest.items)) ≡ (condition_of ordinal e).form
+chain-begins ordinal e first rest is =
+    sym (ap (λ (f : Expr). (condition_of ordinal f).form) is ∙ ap (λ (c : Condition). c.form) (condition-Chain ordinal first rest))
 
-chain-no_part : (root : Option ℕ) (links : List Operand) → IsNoPart (chain_form_of root links)
-chain-no_part None links = record { no_root = refl; no_literal = refl; no_constant = refl }
-chain-no_part (Some root) [] = record { no_root = refl; no_literal = refl; no_constant = refl }
-chain-no_part (Some root) (link ∷ []) = offset-no_part root link.operation (constant_of link.form)
-chain-no_part (Some root) (link ∷ next ∷ links) = record { no_root = refl; no_literal = refl; no_constant = refl }
+-- an operator more
+pub link-more : (ordinal : ℕ → Bool) (links : List Link) (i : ℕ) (link : Link) (form : Form) → i < length links → link ≡ get_or links i link
+    → chain_form (operated_form link.operation form (condition_of ordinal link.operand).form) (map operand_of (map (conjunct_of ordinal) (drop (i + 1) links)))
+    ≡ chain_form form (map operand_of (map (conjunct_of ordinal) (drop i links)))
+link-more ordinal links i link form inside link_is =
+    let left = λ (some : List Link). map operand_of (map (conjunct_of ordinal) some) in
+    ap (λ (k : ℕ). chain_form (operated_form link.operation form (condition_of ordinal link.operand).form) (left (drop k links)))
+    (let same : i + 1 ≡ suc i = omega arith in same)
+    ∙ ap (λ (c : Conjunct). chain_form (operated_form c.operation form c.right.form) (left (drop (suc i) links))) (sym (conjunct-is ordinal link))
+    ∙ ap (λ (l : Link). chain_form form (left (l ∷ drop (suc i) links))) link_is
+    ∙ ap (λ (some : List Link). chain_form form (left some)) (sym (drop-cons links i link inside))
 
--- ---- accesses
+-- ---- what is no entire variable
 
-access-parts : (ordinal : ℕ → Bool) (origin : Origin) (selectors : List Selector)
-    → (None ≡ literal_of (access_form ordinal origin selectors)) × (None ≡ constant_of (access_form ordinal origin selectors))
-access-parts ordinal (AtVariable root) [] = by (ordinal root)
-  where
-    by : (b : Bool) → (None ≡ literal_of (cond b (Entire root) Other)) × (None ≡ constant_of (cond b (Entire root) Other))
-    by true = (refl, refl)
-    by false = (refl, refl)
-access-parts ordinal (AtVariable root) (selector ∷ selectors) = (refl, refl)
-access-parts ordinal (AtRecord root slot steps) selectors = (refl, refl)
+fixed-root : (spelling : Spelling) (found : Option ℤ) → None ≡ root_of (fixed_form spelling found)
+fixed-root spelling None = refl
+fixed-root spelling (Some n) = refl
 
-module _ (ordinal : ℕ → Bool) (e : Expr) (access : Access) (indexes : Vec Expr Global) {holds : Scalar} (defined : ℕ)
-    (is : e ≡ expr.Variable access indexes holds defined) where
-  own-form : (condition_of ordinal e).form ≡ access_form ordinal (origin_of access) access.selectors.items
-  own-form = ap (λ (f : Expr). (condition_of ordinal f).form) is ∙ ap (λ (c : Condition). c.form) (condition-Variable ordinal access indexes holds defined)
+moved-root : (root : ℕ) (spelling : Spelling) (found : Option ℤ) → None ≡ root_of (moved_form root spelling found)
+moved-root root spelling None = refl
+moved-root root spelling (Some n) = refl
 
-  pub variable-literal : None ≡ literal_of (condition_of ordinal e).form
-  variable-literal = (access-parts ordinal (origin_of access) access.selectors.items).0 ∙ sym (ap literal_of own-form)
+offset-root : (root : ℕ) (operation : Dyadic) (spelling : Spelling) (n : ℤ) → None ≡ root_of (offset_form root operation spelling n)
+offset-root root (dyadic.Plus overflow) spelling n = refl
+offset-root root (dyadic.Minus overflow) spelling n = moved-root root spelling (integer_or_none (neg_ℤ n))
+offset-root root operation spelling n = refl
 
-  pub variable-constant : None ≡ constant_of (condition_of ordinal e).form
-  variable-constant = (access-parts ordinal (origin_of access) access.selectors.items).1 ∙ sym (ap constant_of own-form)
+operated-root : (operation : Dyadic) (left right : Form) → None ≡ root_of (operated_form operation left right)
+operated-root operation (Fixed spelling a) (Fixed other b) = fixed-root Computed (computed operation a b)
+operated-root operation (Entire root) (Fixed spelling n) = offset-root root operation spelling n
+operated-root operation left right = refl
 
--- ---- chains
+sign-root : (form : Form) (operation : Monadic) → None ≡ root_of (sign_form form operation)
+sign-root (Fixed spelling n) operation = fixed-root (operated_spelling operation spelling) (integer_or_none (result_of operation n))
+sign-root form operation = refl
 
-module _ (ordinal : ℕ → Bool) (e : Expr) (first : Box Expr Global) (rest : Vec Link Global) (is : e ≡ expr.Chain first rest) where
-  form-is : (condition_of ordinal e).form ≡ chain_form (condition_of ordinal first.value).form (map operand_of (map (conjunct_of ordinal) rest.items))
-  form-is = ap (λ (f : Expr). (condition_of ordinal f).form) is ∙ ap (λ (c : Condition). c.form) (condition-Chain ordinal first rest)
+later-root : (form : Form) (links : List Operand) → None ≡ root_of form → None ≡ root_of (chain_form form links)
+later-root form [] none = none
+later-root form (link ∷ links) none = later-root (operated_form link.operation form link.form) links (operated-root link.operation form link.form)
 
-  none : IsNoPart (chain_form (condition_of ordinal first.value).form (map operand_of (map (conjunct_of ordinal) rest.items)))
-  none = chain-no_part (root_of (condition_of ordinal first.value).form) (map operand_of (map (conjunct_of ordinal) rest.items))
+module _ (ordinal : ℕ → Bool) (e : Expr) where
+  pub monadic-root : (number : ℕ) (operation : Monadic) (operand : Box Expr Global) → e ≡ expr.Monadic number operation operand
+      → None ≡ root_of (condition_of ordinal e).form
+  monadic-root number operation operand is =
+      sign-root (condition_of ordinal operand.value).form operation
+      ∙ ap root_of
+      (sym (ap (λ (f : Expr). (condition_of ordinal f).form) is ∙ ap (λ (c : Condition). c.form) (condition-Monadic ordinal number operation operand)))
 
-  pub chain-entire : None ≡ root_of (condition_of ordinal e).form
-  chain-entire = none.no_root ∙ sym (ap root_of form-is)
-
-  pub chain-literal : None ≡ literal_of (condition_of ordinal e).form
-  chain-literal = none.no_literal ∙ sym (ap literal_of form-is)
-
-  pub chain-constant : None ≡ constant_of (condition_of ordinal e).form
-  chain-constant = none.no_constant ∙ sym (ap constant_of form-is)
+  pub links-root : (first : Box Expr Global) (rest : Vec Link Global) → e ≡ expr.Chain first rest → (length rest.items == 0) ≡ false
+      → None ≡ root_of (condition_of ordinal e).form
+  links-root first rest is some = by rest.items some ∙ ap root_of (chain-begins ordinal e first rest is)
+    where
+      by : (links : List Link) → (length links == 0) ≡ false
+          → None ≡ root_of (chain_form (condition_of ordinal first.value).form (map operand_of (map (conjunct_of ordinal) links)))
+      by [] some = absurd (cc)
+      by (link ∷ links) some =
+          let left = (condition_of ordinal first.value).form in
+          let right = operand_of (conjunct_of ordinal link) in
+          later-root (operated_form right.operation left right.form) (map operand_of (map (conjunct_of ordinal) links))
+          (operated-root right.operation left right.form)

@@ -1,16 +1,16 @@
 -- Where a condition had a truth value, what is known of its branch holds: an induction over expressions, which change
 -- no variable unless they hold a call. Of these none has a bound form.
-use Rattle.std.proofs.Common.{arith, ◌≡◌, ◌∙◌, sym, ap, ap₂, refl, subst, ℕ, ℤ, pos, ◌+ℤ◌, ◌-ℤ◌, neg_ℤ, Bool, true, false, not}
-use Rattle.std.proofs.Common.{◌&&◌, ◌||◌, cond, List, [], ◌∷◌, map, Option, Some, None}
+use Rattle.std.proofs.Common.{arith, ◌≡◌, ◌∙◌, sym, ap, ap₂, refl, subst, ℕ, ℤ, pos, ◌+ℤ◌, ◌-ℤ◌, ◌*ℤ◌, neg_ℤ, int_div, int_le, Bool, true, false, not}
+use Rattle.std.specs.Int.{int_rem_euclid}
+use Rattle.std.proofs.Common.{◌&&◌, ◌||◌, if◌then◌else◌, cond, List, [], ◌∷◌, map, Option, Some, None}
 use Rattle.std.specs.List.{All, list_all}
 use Rattle.std.specs.Ordering.{int_eq}
 use Rattle.std.proofs.lemmas.Int.{ints}
-use Rattle.std.proofs.lemmas.Bool.{and_parts, or_parts, cond_both}
+use Rattle.std.proofs.lemmas.Bool.{and_parts, or_parts, cond_both, false≢true}
 use Rattle.std.proofs.lemmas.List.Elements.{All-cons, All-nil}
-use Rattle.std.proofs.lemmas.Option.{cond_some, none-some, same_Some}
+use Rattle.std.proofs.lemmas.Option.{cond_some, none-some}
 use Rattle.typed_tree.specs.declared.tree.Monadic.{Monadic}
 use Rattle.typed_tree.specs.declared.tree.Monadic.TheVariants as monadic
-use Rattle.typed_tree.specs.declared.tree.Calculation.{Calculation}
 use Rattle.typed_tree.specs.declared.tree.Calculation.TheVariants as calculation
 use Rattle.typed_tree.specs.declared.tree.Dyadic.{Dyadic}
 use Rattle.typed_tree.specs.declared.tree.Dyadic.TheVariants as dyadic
@@ -31,6 +31,7 @@ use Rattle.typed_tree.specs.declared.tree.Expr.TheOpen.Expr-F.{Constant, Variabl
 use Rattle.typed_tree.specs.Accesses.{Origin, AtVariable, AtRecord, origin_of}
 use Rattle.typed_tree.specs.declared.tree.Expr.TheFolds.{map-Expr, map-Link, fold-roll-Expr, fold-roll-Link, ind-Expr}
 use Rattle.domain.specs.Interval.{Interval, HasMember, always_true, never_true, has_number}
+use Rattle.domain.specs.declared.versions.Version.{Version}
 use Rattle.meaning.specs.declared.value.Value.{Value}
 use Rattle.meaning.specs.declared.value.Value.TheVariants.{Number}
 use Rattle.meaning.specs.Integers.{integer_or_none, is_integer_number, is_true, truth}
@@ -40,10 +41,13 @@ use Rattle.meaning.specs.Effect.{Gives, and_then, fetch, number_of}
 use Rattle.meaning.specs.Meaning as meaning
 use Rattle.meaning.specs.Meaning.{Evaluation, Passing, Surroundings, accessed, is_so, link_of, passing_of, relates, selected, value_of, values_of, whole_of}
 use Rattle.checker_state.specs.Bounds.{Bound, constant, plus}
-use Rattle.checker_state.specs.State.{Dead, State}
-use Rattle.checker_state.specs.Forms.{Form, Literal, Signed, Entire, Moved, Other, access_form, bound_of, calculated_literal, chain_form, constant_of}
-use Rattle.checker_state.specs.Forms.{moved_form}
-use Rattle.checker_state.specs.Forms.{negative, offset_form, sign_form, signed, signed_literal}
+use Rattle.checker_state.specs.State.{Dead, Live, State}
+use Rattle.checker_state.specs.declared.forms.Form.{Form}
+use Rattle.checker_state.specs.declared.forms.Form.TheVariants.{Fixed, Entire, Moved, Other}
+use Rattle.checker_state.specs.declared.forms.Spelling.{Spelling}
+use Rattle.checker_state.specs.declared.forms.Spelling.TheVariants.{Computed}
+use Rattle.checker_state.specs.Forms.{Operand, access_form, bound_of, chain_form, computed, fixed_form, moved_form, offset_form, operated_form}
+use Rattle.checker_state.specs.Forms.{operated_spelling, result_of, sign_form, stands}
 use Rattle.checker_state.specs.Conditions.{Condition, Conjunct, all_refined, bound_form, chain_refined, condition_of, condition_step, conjunct_of}
 use Rattle.checker_state.specs.Conditions.{link_condition}
 use Rattle.checker_state.specs.Conditions.{monadic_refined, operand_of, operation_refined, passed_condition, related_forms, single_refined, takes_both, told}
@@ -52,119 +56,136 @@ use Rattle.checker_state.specs.Holds.{Moment, HasNumber, HoldNumbers, moment, pa
 use Rattle.checker_state.specs.Knows.{IsOfForm, Knows}
 use Rattle.checker_state.specs.Laws.{ConditionsTell, FormsTell}
 use Rattle.checker_state.proofs.Apart.{entire-stored}
+use Rattle.checker_state.proofs.FormsOf.{other-chain}
 use Rattle.checker_state.proofs.Bounded.{Preserves, opposite-relates, related-preserves}
 use Rattle.checker_state.proofs.Evaluated.{Keeps, KeepsStore, accessed-keeps, asked-keeps, compare-keeps, entered, fetch-gives, fetch-keeps, given-same}
 use Rattle.checker_state.proofs.Evaluated.{number-gives}
-use Rattle.checker_state.proofs.Evaluated.{both-gives, is_of_numbers, operated-gives, set-keeps, result_of, then-gives, then-keeps, truth-is, whole-keeps}
+use Rattle.checker_state.proofs.Evaluated.{both-gives, is_of_numbers, operated-gives, set-keeps, then-gives, then-keeps, truth-is, whole-keeps}
 
 -- ---- forms and values
 
 -- what the form of an expression says of its value
 abbrev pub IsForm : Form → Moment → Value → Type 0
-IsForm (Literal n) moment v = v ≡ Number n
-IsForm (Signed n) moment v = v ≡ Number n
+IsForm (Fixed spelling n) moment v = v ≡ Number n
 IsForm (Entire root) moment v = (n : ℤ) × (v ≡ Number n) × HasNumber moment root n
-IsForm (Moved root k) moment v = (old : ℤ) × HasNumber moment root old × (v ≡ Number (old +ℤ k))
+IsForm (Moved root spelling k) moment v = (old : ℤ) × HasNumber moment root old × (v ≡ Number (old +ℤ k))
 IsForm Other moment v = Unit {0}
 
-form-bound : (form : Form) (moment : Moment) (v : Value) → IsForm form moment v → IsOfForm moment (bound_of form) v
-form-bound (Literal n) moment v is = (n, is, refl)
-form-bound (Signed n) moment v is = (n, is, refl)
-form-bound (Entire root) moment v (n, is, has) = (n, is, (n, has, omega (arith, ints)))
-form-bound (Moved root k) moment v (old, has, is) = (old +ℤ k, is, (old, has, refl))
-form-bound Other moment v is = tt
+bound-if : (moment : Moment) (v : Value) (stands : Bool) (bound : Bound) → IsOfForm moment (Some bound) v → IsOfForm moment (cond stands (Some bound) None) v
+bound-if moment v true bound is = is
+bound-if moment v false bound is = tt
+
+form-bound : (version : Version) (form : Form) (moment : Moment) (v : Value) → IsForm form moment v → IsOfForm moment (bound_of version form) v
+form-bound version (Fixed spelling n) moment v is = bound-if moment v (stands version spelling) (constant n) (n, is, refl)
+form-bound version (Entire root) moment v (n, is, has) = (n, is, (n, has, omega (arith, ints)))
+form-bound version (Moved root spelling k) moment v (old, has, is) =
+    bound-if moment v (stands version spelling) (plus root k) (old +ℤ k, is, (old, has, refl))
+form-bound version Other moment v is = tt
 
 integer-is : (n m : ℤ) → integer_or_none n ≡ Some m → n ≡ m
 integer-is n m is = (cond_some (is_integer_number n) n m is).1
 
-signed-form : (n : ℤ) (found : Option ℤ) (moment : Moment) → ((m : ℤ) → found ≡ Some m → n ≡ m) → IsForm (signed found) moment (Number n)
-signed-form n None moment is = tt
-signed-form n (Some m) moment is = ap Number (is m refl)
-
-calculated-form : (does : Calculation) (k : ℤ) (moment : Moment) → IsForm (calculated_literal does k) moment (Number (meaning.calculated does k))
-calculated-form calculation.Same k moment = refl
-calculated-form calculation.Negative k moment =
-    signed-form (neg_ℤ k) (integer_or_none (neg_ℤ k)) moment (λ m found. integer-is (neg_ℤ k) m found)
-calculated-form does k moment = tt
-
-signed_literal-form : (operation : Monadic) (k : ℤ) (moment : Moment) → IsForm (signed_literal operation k) moment (Number (result_of operation k))
-signed_literal-form (monadic.Plain does) k moment = calculated-form does k moment
-signed_literal-form (monadic.Tested fits does) k moment = tt
+fixed-form : (spelling : Spelling) (found : Option ℤ) (moment : Moment) (v : Value) → ((m : ℤ) → found ≡ Some m → v ≡ Number m)
+    → IsForm (fixed_form spelling found) moment v
+fixed-form spelling None moment v is = tt
+fixed-form spelling (Some m) moment v is = is m refl
 
 sign-form : (form : Form) (operation : Monadic) (moment : Moment) (v : Value) → IsForm form moment v
     → IsForm (sign_form form operation) moment (Number (result_of operation (number_of v)))
-sign-form (Literal k) operation moment v is =
-    subst (λ (v : Value). IsForm (signed_literal operation k) moment (Number (result_of operation (number_of v)))) (sym is)
-    (signed_literal-form operation k moment)
+sign-form (Fixed spelling k) operation moment v is =
+    let result = result_of operation k in
+    fixed-form (operated_spelling operation spelling) (integer_or_none result) moment (Number (result_of operation (number_of v)))
+    (λ m found. ap (λ (w : Value). Number (result_of operation (number_of w))) is ∙ ap Number (integer-is result m found))
 sign-form form operation moment v is = tt
 
-constant-is : (form : Form) (moment : Moment) (v : Value) (k : ℤ) → IsForm form moment v → constant_of form ≡ Some k → number_of v ≡ k
-constant-is (Literal n) moment v k is found = ap number_of is ∙ same_Some n k found
-constant-is (Signed n) moment v k is found = ap number_of is ∙ same_Some n k found
-constant-is form moment v k is found = absurd (none-some k found)
+-- what is calculated from two constants is what the operation gives
+quotient-is : (a b n : ℤ) (zero : Bool) → (if zero then None else integer_or_none (int_div a b)) ≡ Some n → int_div a b ≡ n
+quotient-is a b n true is = absurd (none-some n is)
+quotient-is a b n false is = integer-is (int_div a b) n is
 
-negative-is : (found : Option ℤ) (k : ℤ) → negative found ≡ Some k → (n : ℤ) × (found ≡ Some n) × (neg_ℤ n ≡ k)
-negative-is None k negated = absurd (none-some k negated)
-negative-is (Some n) k negated = (n, refl, integer-is (neg_ℤ n) k negated)
+remainder-is : (a b n : ℤ) (positive : Bool) → (if positive then integer_or_none (int_rem_euclid a b) else None) ≡ Some n → int_rem_euclid a b ≡ n
+remainder-is a b n true is = integer-is (int_rem_euclid a b) n is
+remainder-is a b n false is = absurd (none-some n is)
 
-moved-form : (root : ℕ) (found : Option ℤ) (moment : Moment) (a n : ℤ) → ((k : ℤ) → found ≡ Some k → HasNumber moment root a × (n ≡ (a +ℤ k)))
-    → IsForm (moved_form root found) moment (Number n)
-moved-form root None moment a n is = tt
-moved-form root (Some k) moment a n is = let parts = is k refl in (a, parts.0, ap Number parts.1)
+computed-is : (operation : Dyadic) (a b n : ℤ) → computed operation a b ≡ Some n → (is_of_numbers operation ≡ true) × (meaning.of_both operation a b ≡ n)
+computed-is (dyadic.Plus overflow) a b n is = (refl, integer-is (a +ℤ b) n is)
+computed-is (dyadic.Minus overflow) a b n is = (refl, integer-is (a -ℤ b) n is)
+computed-is (dyadic.Times overflow) a b n is = (refl, integer-is (a *ℤ b) n is)
+computed-is (dyadic.Div by_zero) a b n is = (refl, quotient-is a b n (int_eq b (pos 0)) is)
+computed-is (dyadic.Mod by_zero_or_less) a b n is = (refl, remainder-is a b n (int_le (pos 1) b) is)
+computed-is operation a b n is = absurd (none-some n is)
 
--- a variable and an operator behind it, where the variable has its number if the operand is a constant
-offset-form : (root : ℕ) (operation : Dyadic) (form : Form) (moment : Moment) (a : ℤ) (w : Value)
-    → ((k : ℤ) → constant_of form ≡ Some k → HasNumber moment root a) → IsForm form moment w
-    → IsForm (offset_form root operation (constant_of form)) moment (Number (meaning.of_both operation a (number_of w)))
-offset-form root (dyadic.Plus overflow) form moment a w has is =
-    moved-form root (constant_of form) moment a (a +ℤ number_of w)
-    (λ k found. (has k found, ap (λ (n : ℤ). a +ℤ n) (constant-is form moment w k is found)))
-offset-form root (dyadic.Minus overflow) form moment a w has is =
-    moved-form root (negative (constant_of form)) moment a (a -ℤ number_of w)
+-- what an operation on two operands gave
+abbrev GaveBoth : Dyadic → Value → Value → Value → Type 0
+GaveBoth operation v w result = is_of_numbers operation ≡ true → result ≡ Number (meaning.of_both operation (number_of v) (number_of w))
+
+moved-form : (root : ℕ) (spelling : Spelling) (found : Option ℤ) (moment : Moment) (a : ℤ) (v : Value) → HasNumber moment root a
+    → ((k : ℤ) → found ≡ Some k → v ≡ Number (a +ℤ k)) → IsForm (moved_form root spelling found) moment v
+moved-form root spelling None moment a v has is = tt
+moved-form root spelling (Some k) moment a v has is = (a, has, is k refl)
+
+offset-form : (root : ℕ) (operation : Dyadic) (spelling : Spelling) (b : ℤ) (moment : Moment) (a : ℤ) (result : Value)
+    → (is_of_numbers operation ≡ true → result ≡ Number (meaning.of_both operation a b)) → HasNumber moment root a
+    → IsForm (offset_form root operation spelling b) moment result
+offset-form root (dyadic.Plus overflow) spelling b moment a result gave has = (a, has, gave refl)
+offset-form root (dyadic.Minus overflow) spelling b moment a result gave has =
+    moved-form root spelling (integer_or_none (neg_ℤ b)) moment a result has
     (λ k found.
-    let (n, own, negated) = negative-is (constant_of form) k found in
-    let number : number_of w ≡ n = constant-is form moment w n is own in
-    (has n own, omega (arith, ints, negated, number)))
-offset-form root operation form moment a w has is = tt
+    let negated : neg_ℤ b ≡ k = integer-is (neg_ℤ b) k found in
+    let same : (a -ℤ b) ≡ (a +ℤ k) = omega (arith, ints, negated) in
+    gave refl ∙ ap Number same)
+offset-form root operation spelling b moment a result gave has = tt
 
--- the same, where the operation gave a value
-offset-result : (root : ℕ) (operation : Dyadic) (form : Form) (moment : Moment) (a : ℤ) (w v : Value)
-    → (is_of_numbers operation ≡ true → v ≡ Number (meaning.of_both operation a (number_of w)))
-    → ((k : ℤ) → constant_of form ≡ Some k → HasNumber moment root a) → IsForm form moment w
-    → IsForm (offset_form root operation (constant_of form)) moment v
-offset-result root (dyadic.Plus overflow) form moment a w v result has is =
-    subst (IsForm (offset_form root (dyadic.Plus overflow) (constant_of form)) moment) (sym (result refl))
-    (offset-form root (dyadic.Plus overflow) form moment a w has is)
-offset-result root (dyadic.Minus overflow) form moment a w v result has is =
-    subst (IsForm (offset_form root (dyadic.Minus overflow) (constant_of form)) moment) (sym (result refl))
-    (offset-form root (dyadic.Minus overflow) form moment a w has is)
-offset-result root operation form moment a w v result has is = tt
+-- an operator between two operands, of which these are the forms
+operated-form : (operation : Dyadic) (left right : Form) (moment : Moment) (v w result : Value) → GaveBoth operation v w result → IsForm left moment v
+    → IsForm right moment w → IsForm (operated_form operation left right) moment result
+operated-form operation (Fixed spelling a) (Fixed other b) moment v w result gave v_is w_is =
+    fixed-form Computed (computed operation a b) moment result
+    (λ n found.
+    let is = computed-is operation a b n found in
+    gave is.0 ∙ ap Number (ap₂ (meaning.of_both operation) (ap number_of v_is) (ap number_of w_is) ∙ is.1))
+operated-form operation (Entire root) (Fixed spelling b) moment v w result gave (a, v_is, has) w_is =
+    offset-form root operation spelling b moment a result
+    (λ numbers. gave numbers ∙ ap Number (ap₂ (meaning.of_both operation) (ap number_of v_is) (ap number_of w_is))) has
+operated-form operation left right moment v w result gave v_is w_is = tt
 
 -- ---- what an expression tells
 
--- an expression of a form that is a bound form changes no variable
+-- a form that is part of a bound form
+abbrev pub is_part : Form → Bool
+is_part Other = false
+is_part form = true
+
+-- an expression of such a form changes no variable
 abbrev pub Still : Form → Store → Store → Type 0
-Still form before after = (bound : Bound) → bound_of form ≡ Some bound → after ≡ before
+Still form before after = is_part form ≡ true → after ≡ before
 
--- a constant is a bound form
-constant-bound : (form : Form) (k : ℤ) → constant_of form ≡ Some k → (bound : Bound) × (bound_of form ≡ Some bound)
-constant-bound (Literal n) k is = (constant n, refl)
-constant-bound (Signed n) k is = (constant n, refl)
-constant-bound form k is = absurd (none-some k is)
+other-still : (before after : Store) → Still Other before after
+other-still before after part = absurd (false≢true part)
 
-constant-there : (found : Option ℤ) → ((k : ℤ) → found ≡ Some k → ⊥) → found ≡ None
-constant-there None none = refl
-constant-there (Some k) none = absurd (none k refl)
+-- a bound form is one
+bound-part : (version : Version) (form : Form) (bound : Bound) → bound_of version form ≡ Some bound → is_part form ≡ true
+bound-part version (Fixed spelling n) bound is = refl
+bound-part version (Entire root) bound is = refl
+bound-part version (Moved root spelling n) bound is = refl
+bound-part version Other bound is = absurd (none-some bound is)
 
-offset-none : (root : ℕ) (operation : Dyadic) → bound_of (offset_form root operation None) ≡ None
-offset-none root (dyadic.Plus overflow) = refl
-offset-none root operation = refl
+-- only a constant stands behind an operator
+abbrev is_fixed : Form → Bool
+is_fixed (Fixed spelling n) = true
+is_fixed form = false
 
--- of a variable and an operator behind it only that with a constant is one
-offset-constant : (root : ℕ) (operation : Dyadic) (found : Option ℤ) (bound : Bound) → bound_of (offset_form root operation found) ≡ Some bound
-    → (k : ℤ) × (found ≡ Some k)
-offset-constant root operation None bound is = absurd (none-some bound (sym (offset-none root operation) ∙ is))
-offset-constant root operation (Some k) bound is = (k, refl)
+no-right : (operation : Dyadic) (left right : Form) → is_fixed right ≡ false → operated_form operation left right ≡ Other
+no-right operation (Fixed spelling a) (Fixed other b) isnt = absurd (false≢true (sym isnt))
+no-right operation (Entire root) (Fixed spelling b) isnt = absurd (false≢true (sym isnt))
+no-right operation left right isnt = refl
+
+-- what begins with no part of a bound form is none
+first-part : (form : Form) (links : List Operand) → is_part (chain_form form links) ≡ true → is_part form ≡ true
+first-part Other links part = sym (ap is_part (other-chain links)) ∙ part
+first-part (Fixed spelling n) links part = refl
+first-part (Entire root) links part = refl
+first-part (Moved root spelling n) links part = refl
 
 -- by what is told of variables, which of them are ordinals
 module _ (ordinal : ℕ → Bool) where
@@ -205,15 +226,15 @@ module _ (ordinal : ℕ → Bool) where
   told-relates r a b true is = is
   told-relates r a b false is = opposite-relates r a b is
 
-  operation-preserves : (env : Environment) (store : Store) (operation : Dyadic) (left right : Form) (v w : Value) (so : Bool)
+  operation-preserves : (version : Version) (env : Environment) (store : Store) (operation : Dyadic) (left right : Form) (v w : Value) (so : Bool)
       → IsForm left (moment env store) v → IsForm right (moment env store) w
       → (is_of_numbers operation ≡ true → is_true (meaning.of_both operation (number_of v) (number_of w)) ≡ so)
-      → Preserves env store (operation_refined operation so (bound_of left) (bound_of right))
-  operation-preserves env store (dyadic.Relation r) left right v w so left_is right_is is =
-      forms-preserve env store (told r so) (bound_of left) (bound_of right) v w (form-bound left (moment env store) v left_is)
-      (form-bound right (moment env store) w right_is)
+      → Preserves env store (operation_refined operation so (bound_of version left) (bound_of version right))
+  operation-preserves version env store (dyadic.Relation r) left right v w so left_is right_is is =
+      forms-preserve env store (told r so) (bound_of version left) (bound_of version right) v w (form-bound version left (moment env store) v left_is)
+      (form-bound version right (moment env store) w right_is)
       (told-relates r (number_of v) (number_of w) so (sym (truth-is (relates r (number_of v) (number_of w))) ∙ is refl))
-  operation-preserves env store operation left right v w so left_is right_is is = λ rows table are state known. known
+  operation-preserves version env store operation left right v w so left_is right_is is = λ rows table are state known. known
 
   -- both operands have the truth value that the whole takes from both
   both-so : (operation : Dyadic) (a b : ℤ) (so : Bool) → takes_both so operation ≡ true → is_true (meaning.of_both operation a b) ≡ so
@@ -282,6 +303,13 @@ module _ (ordinal : ℕ → Bool) where
       let more = subst (λ (store : Store). Preserves env.visible store (all_refined truth (conjuncts_of links))) (combines.right_is.store_is none.0) rest.1 in
       (both.0, λ rows table are state known. more rows table are (conjunct.right.refined truth state) (one rows table are state known))
 
+  -- by the rules of whichever version a state is known
+  rules-preserve : (env : Environment) (store : Store) (conjunct : Conjunct) (so : Bool) (left : Form)
+      → ((version : Version) → Preserves env store (operation_refined conjunct.operation so (bound_of version left) (bound_of version conjunct.right.form)))
+      → Preserves env store (single_refined so left (conjunct ∷ []))
+  rules-preserve env store conjunct so left by_rules rows table are Dead known = known
+  rules-preserve env store conjunct so left by_rules rows table are (Live facts) known = by_rules facts.rules rows table are (Live facts) known
+
   -- a single operator
   single-preserves : (links : List ProvedLink) → calls_in links ≡ false → (env : Surroundings) (s t : effect.State) (left result : Value) (form : Form)
       → turns links env left s ≡ Gives result t → IsForm form (moment env.visible s.store) left → HoldNumbers ordinal (moment env.visible s.store)
@@ -298,56 +326,67 @@ module _ (ordinal : ℕ → Bool) where
       subst (λ (store : Store). IsForm conjunct.right.form (moment env.visible store) combines.right) (combines.right_is.store_is none.0)
       (combines.right_is.form_is
       (subst (λ (store : Store). HoldNumbers ordinal (moment env.visible store)) (sym (combines.right_is.store_is none.0)) numbers)) in
-      operation-preserves env.visible s.store conjunct.operation form conjunct.right.form left combines.right (is_so result) form_is right_is
-      (λ of_numbers. sym (ap is_so (combines.result_is of_numbers)) ∙ ap is_so same)
+      rules-preserve env.visible s.store conjunct (is_so result) form
+      (λ version.
+      operation-preserves version env.visible s.store conjunct.operation form conjunct.right.form left combines.right (is_so result) form_is right_is
+      (λ of_numbers. sym (ap is_so (combines.result_is of_numbers)) ∙ ap is_so same))
 
   -- ---- forms of chains
 
-  -- a form tells of the value behind it, and what comes between changes no variable, if it is a bound form
+  -- a form tells of the value behind it, and what comes between changes no variable, if it is part of a bound form
   abbrev Tells : Form → Environment → Store → Store → Value → Type 0
   Tells form env before after v = (HoldNumbers ordinal (moment env after) → IsForm form (moment env after) v) × Still form before after
 
+  abbrev operands_of : List ProvedLink → List Operand
+  operands_of links = map operand_of (conjuncts_of links)
+
   abbrev chain_of : Form → List ProvedLink → Form
-  chain_of form links = chain_form form (map operand_of (conjuncts_of links))
+  chain_of form links = chain_form form (operands_of links)
+
+  -- an operator and its right operand
+  module _ (env : Environment) (conjunct : Conjunct) (form : Form) (holds : Bool) (before after : Store) (left result : Value)
+      (combines : Combines env conjunct holds before after left result)
+      (form_is : HoldNumbers ordinal (moment env before) → IsForm form (moment env before) left) where
+    abbrev behind : Form
+    behind = operated_form conjunct.operation form conjunct.right.form
+
+    kept-tells : after ≡ before → Tells behind env before after result
+    kept-tells kept = (
+      λ numbers.
+          operated-form conjunct.operation form conjunct.right.form (moment env after) left combines.right result combines.result_is
+          (subst (λ (store : Store). IsForm form (moment env store) left) (sym kept)
+          (form_is (subst (λ (store : Store). HoldNumbers ordinal (moment env store)) kept numbers)))
+          (combines.right_is.form_is numbers),
+      λ part. kept,
+    )
+
+    operated-tells : (right : Form) → conjunct.right.form ≡ right → Tells behind env before after result
+    operated-tells (Fixed spelling n) is = kept-tells (combines.right_is.still (ap is_part is))
+    operated-tells right is =
+        subst (λ (whole : Form). Tells whole env before after result) (sym (no-right conjunct.operation form conjunct.right.form (ap is_fixed is)))
+        (λ numbers. tt, other-still before after)
 
   chain-tells : (links : List ProvedLink) (form : Form) (env : Surroundings) (s t : effect.State) (left result : Value)
       → turns links env left s ≡ Gives result t
       → (HoldNumbers ordinal (moment env.visible s.store) → IsForm form (moment env.visible s.store) left)
       → Tells (chain_of form links) env.visible s.store t.store result
-  chain-tells (link ∷ []) (Entire root) env s t left result is form_is =
-      let step = then-gives (link_of link.0 env left s) (turns [] env) result t is in
+  chain-tells [] form env s t left result is form_is =
+      let same = given-same left result s t is in
+      let there : Tells form env.visible s.store s.store left = (form_is, λ part. refl) in
+      subst (λ (v : Value). Tells form env.visible s.store t.store v) same.0
+      (subst (λ (u : effect.State). Tells form env.visible s.store u.store left) same.1 there)
+  chain-tells (link ∷ links) form env s t left result is form_is =
+      let step = then-gives (link_of link.0 env left s) (turns links env) result t is in
       let combines = link.1 env s step.1 left step.0 step.2 in
       let conjunct = conjunct_of ordinal link.0 in
-      let right = conjunct.right.form in
-      let stays : (k : ℤ) → constant_of right ≡ Some k → step.1.store ≡ s.store =
-      λ k found. let own = constant-bound right k found in combines.right_is.still own.0 own.1 in
-      let last = given-same step.0 result step.1 t step.3 in
-      let whole = offset_form root conjunct.operation (constant_of right) in
-      let here : HoldNumbers ordinal (moment env.visible step.1.store) → IsForm whole (moment env.visible step.1.store) step.0 =
-      λ numbers.
-      offset-result root conjunct.operation right (moment env.visible step.1.store) (number_of left) combines.right step.0 combines.result_is
-      (λ k found.
-      let at_start = subst (λ (store : Store). HoldNumbers ordinal (moment env.visible store)) (stays k found) numbers in
-      let own = form_is at_start in
-      subst (λ (store : Store). HasNumber (moment env.visible store) root (number_of left)) (sym (stays k found))
-      (subst (HasNumber (moment env.visible s.store) root) (sym (ap number_of own.1)) own.2))
-      (combines.right_is.form_is numbers) in
-      let there : Tells whole env.visible s.store step.1.store step.0 =
-      (here, λ bound is. let own = offset-constant root conjunct.operation (constant_of right) bound is in stays own.0 own.1) in
-      subst (λ (v : Value). Tells whole env.visible s.store t.store v) last.0
-      (subst (λ (u : effect.State). Tells whole env.visible s.store u.store step.0) last.1 there)
-  chain-tells [] (Entire root) env s t left result is form_is = (λ numbers. tt, λ bound none. absurd (none-some bound none))
-  chain-tells (link ∷ next ∷ links) (Entire root) env s t left result is form_is = (λ numbers. tt, λ bound none. absurd (none-some bound none))
-  chain-tells links form env s t left result is form_is = (λ numbers. tt, λ bound none. absurd (none-some bound none))
-
-  chain-still : (form : Form) (links : List ProvedLink) (before between after : Store) → Still form before between → Still (chain_of form links) between after
-      → Still (chain_of form links) before after
-  chain-still (Entire root) links before between after first rest bound is = rest bound is ∙ first (plus root (pos 0)) refl
-  chain-still form links before between after first rest bound is = absurd (none-some bound is)
+      let one = operated-tells env.visible conjunct form _ s.store step.1.store left step.0 combines form_is conjunct.right.form refl in
+      let whole = operated_form conjunct.operation form conjunct.right.form in
+      let rest = chain-tells links whole env step.1 t step.0 result step.3 one.0 in
+      (rest.0, λ part. rest.1 part ∙ one.1 (first-part whole (operands_of links) part))
 
   sign-still : (form : Form) (operation : Monadic) (before after : Store) → Still form before after → Still (sign_form form operation) before after
-  sign-still (Literal n) operation before after still bound is = still (constant n) refl
-  sign-still form operation before after still bound is = absurd (none-some bound is)
+  sign-still (Fixed spelling n) operation before after still part = still refl
+  sign-still form operation before after still part = absurd (false≢true part)
 
   -- ---- the forms of expressions
 
@@ -381,7 +420,7 @@ module _ (ordinal : ℕ → Bool) where
             (subst (IsForm (sign_form condition.form operation) (moment env u.store)) (sym result)
             (sign-form condition.form operation (moment env u.store) a
             (one.form_is (subst (λ (store : Store). HoldNumbers ordinal (moment env store)) kept numbers))));
-        still = λ bound is. kept ∙ sign-still condition.form operation s.store u.store one.still bound is;
+        still = λ part. kept ∙ sign-still condition.form operation s.store u.store one.still part;
         store_is = λ quiet. kept ∙ one.store_is quiet;
         refines = λ quiet numbers.
             subst (λ (v : Value). Preserves env s.store (monadic_refined operation condition (is_so v))) (sym result)
@@ -398,7 +437,7 @@ module _ (ordinal : ℕ → Bool) where
       let tells = chain-tells links first.form env u t left result is one.form_is in
       record {
         form_is = tells.0;
-        still = chain-still first.form links s.store u.store t.store one.still tells.1;
+        still = λ part. tells.1 part ∙ one.still (first-part first.form (operands_of links) part);
         store_is = λ quiet.
             let none = or_parts holds (calls_in links) quiet in
             turns-kept links none.1 env u t left result is ∙ one.store_is none.0;
@@ -438,7 +477,7 @@ module _ (ordinal : ℕ → Bool) where
   access-tells (AtVariable root) [] indexes env s u t found site v reached is = by (ordinal root) refl
     where
       by : (b : Bool) → ordinal root ≡ b → Tells (cond b (Entire root) Other) env.visible s.store t.store v
-      by false isnt = (λ numbers. tt, λ bound none. absurd (none-some bound none))
+      by false isnt = (λ numbers. tt, λ part. absurd (false≢true part))
       by true told =
           let same = given-same (env.visible.variables root) found s u reached in
           let fetched = fetch-gives (held u.store found) site u t v is in
@@ -448,12 +487,12 @@ module _ (ordinal : ℕ → Bool) where
           ∙ ap₂ (λ (store : Store) (place : Option Place). held store place) (sym (ap (λ (x : effect.State). x.store) fetched.1)) same.0
           ∙ fetched.0 in (
             λ numbers. let number = numbers root v told own in (number.0, number.1, own ∙ ap Some number.1),
-            λ bound some. sym kept,
+            λ part. sym kept,
           )
   access-tells (AtVariable root) (selector ∷ selectors) indexes env s u t found site v reached is =
-      (λ numbers. tt, λ bound none. absurd (none-some bound none))
+      (λ numbers. tt, λ part. absurd (false≢true part))
   access-tells (AtRecord root slot steps) selectors indexes env s u t found site v reached is =
-      (λ numbers. tt, λ bound none. absurd (none-some bound none))
+      (λ numbers. tt, λ part. absurd (false≢true part))
 
   -- a layer of an expression, of which the parts are proved
   abbrev ExprLayer : Expr-F Expr Passed Link → Type 0
@@ -492,7 +531,7 @@ module _ (ordinal : ℕ → Bool) where
       let kept : t.store ≡ s.store = ap (λ (x : effect.State). x.store) (sym same.1) in
       record {
         form_is = λ numbers. sym same.0;
-        still = λ bound some. kept;
+        still = λ part. kept;
         store_is = λ quiet. kept;
         refines = λ quiet numbers rows table are state known. known;
       }
@@ -522,7 +561,7 @@ module _ (ordinal : ℕ → Bool) where
       (first.value.1 env s step.1 step.0 step.2) step.3
   value-layer (Compare number relation left left_indexes right right_indexes) env s t v is = record {
     form_is = λ numbers. tt;
-    still = λ bound none. absurd (none-some bound none);
+    still = λ part. absurd (false≢true part);
     store_is = λ quiet.
         let none = or_parts (any_holds (whole_indexes left (map holds_call (map (λ (e : ProvedExpr). e.0) left_indexes.items))))
         (any_holds (whole_indexes right (map holds_call (map (λ (e : ProvedExpr). e.0) right_indexes.items)))) quiet in
@@ -533,7 +572,7 @@ module _ (ordinal : ℕ → Bool) where
   }
   value-layer (Set number designators members) env s t v is = record {
     form_is = λ numbers. tt;
-    still = λ bound none. absurd (none-some bound none);
+    still = λ part. absurd (false≢true part);
     store_is = λ quiet.
         set-keeps designators.items (map value_of (map (λ (e : ProvedExpr). e.0) members.items)) (all-kept members.items quiet) env
         (entered number env.visible s) t v is;
@@ -541,13 +580,13 @@ module _ (ordinal : ℕ → Bool) where
   }
   value-layer (Call call actuals) env s t v is = record {
     form_is = λ numbers. tt;
-    still = λ bound none. absurd (none-some bound none);
+    still = λ part. absurd (false≢true part);
     store_is = λ quiet. absurd (holds-none quiet);
     refines = λ quiet numbers rows table are state known. known;
   }
   value-layer (Input number asks) env s t v is = record {
     form_is = λ numbers. tt;
-    still = λ bound none. absurd (none-some bound none);
+    still = λ part. absurd (false≢true part);
     store_is = λ quiet. asked-keeps asks (entered number env.visible s) t v is;
     refines = λ quiet numbers rows table are state known. known;
   }
@@ -630,15 +669,15 @@ pub expression-kept : (e : Expr) → holds_call e ≡ false → KeepsStore (valu
 expression-kept e quiet env s t v is = (evaluates (λ root. false) e env s t v is).store_is quiet
 
 -- the value of an expression of a bound form is its bound
--- the value of an expression of a bound form is its bound
 pub forms-tell : FormsTell
-forms-tell ordinal e env s t v is numbers =
-    form-bound (condition_of ordinal e).form (moment env.visible t.store) v ((evaluates ordinal e env s t v is).form_is numbers)
+forms-tell ordinal version e env s t v is numbers =
+    form-bound version (condition_of ordinal e).form (moment env.visible t.store) v ((evaluates ordinal e env s t v is).form_is numbers)
 
 -- an expression of a bound form changes no variable
-pub form-kept : (ordinal : ℕ → Bool) (e : Expr) (bound : Bound) (env : Surroundings) (s t : effect.State) (v : Value) → value_of e env s ≡ Gives v t
-    → bound_form ordinal e ≡ Some bound → t.store ≡ s.store
-form-kept ordinal e bound env s t v is found = (evaluates ordinal e env s t v is).still bound found
+pub form-kept : (ordinal : ℕ → Bool) (version : Version) (e : Expr) (bound : Bound) (env : Surroundings) (s t : effect.State) (v : Value)
+    → value_of e env s ≡ Gives v t → bound_form ordinal version e ≡ Some bound → t.store ≡ s.store
+form-kept ordinal version e bound env s t v is found =
+    (evaluates ordinal e env s t v is).still (bound-part version (condition_of ordinal e).form bound found)
 
 never-so : (range : Interval) (n : ℤ) → HasMember range n → is_true n ≡ true → never_true range ≡ true → ⊥
 never-so range n inside is never =

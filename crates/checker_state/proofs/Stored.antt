@@ -5,7 +5,9 @@ use Rattle.std.specs.List.{Contains, filter, filter_map, list_any}
 use Rattle.std.proofs.lemmas.Int.{ints, by_lt_z}
 use Rattle.std.proofs.lemmas.Bool.{and_parts, both_ways, cases_Bool, eq-eqb, eqb-true}
 use Rattle.std.proofs.lemmas.Option.{none-some, same_Some}
+use Rattle.domain.specs.declared.versions.Extension.TheVariants.{Boxes}
 use Rattle.domain.specs.Interval.{Interval, joined}
+use Rattle.domain.specs.Versions.{has}
 use Rattle.types.specs.declared.form.Step.{Step}
 use Rattle.meaning.specs.declared.value.Value.{Value}
 use Rattle.meaning.specs.declared.value.Value.TheVariants.{Number}
@@ -49,10 +51,17 @@ either-some true next one more other is = inl (refl, same_Some one other is)
 either-some false true one more other is = inr (refl, same_Some more other is)
 either-some false false one more other is = absurd (none-some other is)
 
-longer-some : (row : ℕ) (front : List Bound) (found : Option Span) (other : Held) → longer_of row front found ≡ Some other
-    → (span : Span) × (found ≡ Some span) × (stretched row (map point front ++ span ∷ []) ≡ other)
-longer-some row front None other is = absurd (none-some other is)
-longer-some row front (Some span) other is = (span, refl, same_Some (stretched row (map point front ++ span ∷ [])) other is)
+-- of two that may be there one is, by a test
+one-of : (test : Bool) (one rest : Option Held) (other : Held) → cond test one rest ≡ Some other
+    → ((test ≡ true) × (one ≡ Some other)) ⊎ (rest ≡ Some other)
+one-of true one rest other is = inl (refl, is)
+one-of false one rest other is = inr is
+
+longer-some : (row : ℕ) (front back : List Bound) (found : Option Span) (other : Held) → longer_of row front back found ≡ Some other
+    → (span : Span) × (found ≡ Some span) × (stretched row (map point front ++ span ∷ map point back) ≡ other)
+longer-some row front back None other is = absurd (none-some other is)
+longer-some row front back (Some span) other is =
+    (span, refl, same_Some (stretched row (map point front ++ span ∷ map point back)) other is)
 
 -- ---- single indexes
 
@@ -73,12 +82,14 @@ points-are m [] (number ∷ numbers) are = absurd are
 points-are m (bound ∷ bounds) [] are = absurd are
 points-are m (bound ∷ bounds) (number ∷ numbers) are = (are.0, are.0, points-are m bounds numbers are.1)
 
-points-then : (m : Moment) (bounds : List Bound) (numbers : List ℤ) (span : Span) (own : Numbers) → AreNumbers m bounds numbers
-    → IsBound m span.first own.first → IsBound m span.last own.last → AreBounds m (map point bounds ++ span ∷ []) (map just numbers ++ own ∷ [])
-points-then m [] [] span own are first last = (first, last, tt)
-points-then m [] (number ∷ numbers) span own are first last = absurd are
-points-then m (bound ∷ bounds) [] span own are first last = absurd are
-points-then m (bound ∷ bounds) (number ∷ numbers) span own are first last = (are.0, are.0, points-then m bounds numbers span own are.1 first last)
+points-then : (m : Moment) (bounds : List Bound) (numbers : List ℤ) (back : List Bound) (backs : List ℤ) (span : Span) (own : Numbers)
+    → AreNumbers m bounds numbers → AreNumbers m back backs → IsBound m span.first own.first → IsBound m span.last own.last
+    → AreBounds m (map point bounds ++ span ∷ map point back) (map just numbers ++ own ∷ map just backs)
+points-then m [] [] back backs span own are behind first last = (first, last, points-are m back backs behind)
+points-then m [] (number ∷ numbers) back backs span own are behind first last = absurd are
+points-then m (bound ∷ bounds) [] back backs span own are behind first last = absurd are
+points-then m (bound ∷ bounds) (number ∷ numbers) back backs span own are behind first last =
+    (are.0, are.0, points-then m bounds numbers back backs span own are.1 behind first last)
 
 -- what lies between single numbers begins with them
 single-begin : (numbers indexes : List ℤ) → LieBetween (map just numbers) indexes → BeginWith numbers indexes
@@ -89,26 +100,27 @@ single-begin (number ∷ numbers) (index ∷ indexes) lie =
     let high = lie.1 in
     (let same : index ≡ number = omega (arith, ints, low, high) in same, single-begin numbers indexes lie.2)
 
--- where indexes begin with single numbers, the index behind them lies in a last span
-record Behind (front : List ℤ) (own : Numbers) (indexes : List ℤ) : Type 0 where
+-- where single numbers stand before and behind a span, an index lies in it
+record Amid (front back : List ℤ) (own : Numbers) (indexes : List ℤ) : Type 0 where
   index : ℤ
   low : own.first ≤ℤ index
   high : index ≤ℤ own.last
-  begin : (number : ℤ) → index ≡ number → BeginWith (front ++ number ∷ []) indexes
-  lie : (other : Numbers) → other.first ≤ℤ index → index ≤ℤ other.last → LieBetween (map just front ++ other ∷ []) indexes
+  begin : (number : ℤ) → index ≡ number → BeginWith (front ++ number ∷ back) indexes
+  lie : (other : Numbers) → other.first ≤ℤ index → index ≤ℤ other.last → LieBetween (map just front ++ other ∷ map just back) indexes
 
-behind-front : (front : List ℤ) (own : Numbers) (indexes : List ℤ) → LieBetween (map just front ++ own ∷ []) indexes → Behind front own indexes
-behind-front [] own [] lie = absurd lie
-behind-front [] own (index ∷ indexes) lie = record {
+amid : (front back : List ℤ) (own : Numbers) (indexes : List ℤ) → LieBetween (map just front ++ own ∷ map just back) indexes
+    → Amid front back own indexes
+amid [] back own [] lie = absurd lie
+amid [] back own (index ∷ indexes) lie = record {
   index = index;
   low = lie.0;
   high = lie.1;
-  begin = λ number same. (same, tt);
-  lie = λ other low high. (low, high, tt);
+  begin = λ number same. (same, single-begin back indexes lie.2);
+  lie = λ other low high. (low, high, lie.2);
 }
-behind-front (number ∷ front) own [] lie = absurd lie
-behind-front (number ∷ front) own (index ∷ indexes) lie =
-    let rest = behind-front front own indexes lie.2 in
+amid (number ∷ front) back own [] lie = absurd lie
+amid (number ∷ front) back own (index ∷ indexes) lie =
+    let rest = amid front back own indexes lie.2 in
     let low = lie.0 in
     let high = lie.1 in
     let same : index ≡ number = omega (arith, ints, low, high) in record {
@@ -249,41 +261,43 @@ module _ (rows : List Parts) (table : Table) (are : AreRows rows table) (env : E
         λ steps index of_row first lie. reached steps of_row (single-begin numbers (indexes_of steps) lie),
       )
 
-      -- a last span becomes longer by an index, behind single ones
-      module _ (front : List Bound) (fronts : List ℤ) (front_are : AreNumbers After front fronts) (bound : Bound) (number : ℤ)
-          (bound_is : IsBound After bound number) (same : numbers ≡ fronts ++ number ∷ []) where
+      -- a span becomes longer by an index, between single ones
+      module _ (front : List Bound) (fronts : List ℤ) (front_are : AreNumbers After front fronts) (back : List Bound) (backs : List ℤ)
+          (back_are : AreNumbers After back backs) (bound : Bound) (number : ℤ) (bound_is : IsBound After bound number)
+          (same : numbers ≡ fronts ++ number ∷ backs) where
         ranged : (first last : Bound) (low high : ℤ) → IsBound After first low → IsBound After last high
             → ((steps : List Step) (index : ℤ) → IsOfRow rows row steps → first_index steps ≡ Some index
-            → (there : Behind fronts (record { first = low; last = high }) (indexes_of steps)) → HasComponent rows After row steps)
-            → HoldsAfter (stretched row (map point front ++ record { first = first; last = last } ∷ []))
+            → (there : Amid fronts backs (record { first = low; last = high }) (indexes_of steps)) → HasComponent rows After row steps)
+            → HoldsAfter (stretched row (map point front ++ record { first = first; last = last } ∷ map point back))
         ranged first last low high low_is high_is each = (
-          map just fronts ++ record { first = low; last = high } ∷ [],
-          points-then After front fronts (record { first = first; last = last }) (record { first = low; last = high }) front_are low_is high_is,
+          map just fronts ++ record { first = low; last = high } ∷ map just backs,
+          points-then After front fronts back backs (record { first = first; last = last }) (record { first = low; last = high }) front_are back_are
+              low_is high_is,
           λ steps index of_row first lie.
-              each steps index of_row first (behind-front fronts (record { first = low; last = high }) (indexes_of steps) lie),
+              each steps index of_row first (amid fronts backs (record { first = low; last = high }) (indexes_of steps) lie),
         )
 
         -- the components of the index itself
-        own-has : (steps : List Step) → IsOfRow rows row steps → BeginWith (fronts ++ number ∷ []) (indexes_of steps) → HasComponent rows After row steps
+        own-has : (steps : List Step) → IsOfRow rows row steps → BeginWith (fronts ++ number ∷ backs) (indexes_of steps) → HasComponent rows After row steps
         own-has steps of_row begin = reached steps of_row (subst (λ (n : List ℤ). BeginWith n (indexes_of steps)) (sym same) begin)
 
         longer-holds : (span other : Span) (from to : ℤ) → IsBound After span.first from → IsBound After span.last to
             → ((steps : List Step) (index : ℤ) → IsOfRow rows row steps → first_index steps ≡ Some index
-            → LieBetween (map just fronts ++ record { first = from; last = to } ∷ []) (indexes_of steps) → HasComponent rows After row steps)
+            → LieBetween (map just fronts ++ record { first = from; last = to } ∷ map just backs) (indexes_of steps) → HasComponent rows After row steps)
             → longer_span known bound span ≡ Some other
-            → HoldsAfter (stretched row (map point front ++ other ∷ []))
+            → HoldsAfter (stretched row (map point front ++ other ∷ map point back))
         longer-holds span other from to from_is to_is each is =
             ⊎_elim
             (λ (up : (is_next known span.last bound ≡ true) × (record span { last = bound } ≡ other)).
             let behind = next-is rows After known told span.last bound to number to_is bound_is up.0 in
-            subst (λ (s : Span). HoldsAfter (stretched row (map point front ++ s ∷ []))) up.1
+            subst (λ (s : Span). HoldsAfter (stretched row (map point front ++ s ∷ map point back))) up.1
             (ranged span.first bound from number from_is bound_is (λ steps index of_row first there.
             ⊎_elim (λ inside. each steps index of_row first (there.lie (record { first = from; last = to }) there.low inside))
             (λ beyond. own-has steps of_row (there.begin number (beyond ∙ sym behind)))
             (least-cases there.index to (let high = there.high in omega (arith, ints, behind, high))))))
             (λ (down : (is_next known bound span.first ≡ true) × (record span { first = bound } ≡ other)).
             let ahead = next-is rows After known told bound span.first number from bound_is from_is down.0 in
-            subst (λ (s : Span). HoldsAfter (stretched row (map point front ++ s ∷ []))) down.1
+            subst (λ (s : Span). HoldsAfter (stretched row (map point front ++ s ∷ map point back))) down.1
             (ranged bound span.last number to bound_is to_is (λ steps index of_row first there.
             by_lt_z number there.index
             (λ above. each steps index of_row first (there.lie (record { first = from; last = to }) (omega (arith, ints, ahead, above)) there.high))
@@ -301,7 +315,7 @@ module _ (rows : List Parts) (table : Table) (are : AreRows rows table) (env : E
       one-longer one bounds_are (span ∷ []) other is ([], ends, each) = absurd ends
       one-longer one bounds_are (span ∷ []) other is (own ∷ two ∷ around, ends, each) = absurd ends.2
       one-longer one bounds_are (span ∷ []) other is (own ∷ [], ends, each) =
-          let (new, new_is, same) = longer-some row [] (longer_span known one span) other is in
+          let (new, new_is, same) = longer-some row [] [] (longer_span known one span) other is in
           by numbers refl (subst (λ (b : List Bound). AreNumbers After b numbers) bounds_are at) new new_is same
         where
           by : (all : List ℤ) → numbers ≡ all → AreNumbers After (one ∷ []) all → (new : Span) → longer_span known one span ≡ Some new
@@ -309,9 +323,9 @@ module _ (rows : List Parts) (table : Table) (are : AreRows rows table) (env : E
           by [] all_are none new new_is same = absurd none
           by (number ∷ two ∷ all) all_are none new new_is same = absurd none.1
           by (number ∷ []) all_are (is_number, end) new new_is same =
-              subst HoldsAfter same (longer-holds [] [] tt one number is_number all_are span new own.first own.last ends.0 ends.1 each new_is)
+              subst HoldsAfter same (longer-holds [] [] tt [] [] tt one number is_number all_are span new own.first own.last ends.0 ends.1 each new_is)
 
-      -- two make one longer that has two, of which the first is just the first index
+      -- two make one longer that has two, of which one is just its index
       two-longer : (one two : Bound) → bounds ≡ one ∷ two ∷ [] → (spans : List Span) (other : Held) → longer_by known row (one ∷ two ∷ []) spans ≡ Some other
           → StretchHolds rows (record { row = row; spans = spans }) After → HoldsAfter other
       two-longer one two bounds_are [] other is holds_before = absurd (none-some other is)
@@ -321,10 +335,20 @@ module _ (rows : List Parts) (table : Table) (are : AreRows rows table) (env : E
       two-longer one two bounds_are (span ∷ within ∷ []) other is (own ∷ [], ends, each) = absurd ends.2
       two-longer one two bounds_are (span ∷ within ∷ []) other is (own ∷ second ∷ third ∷ around, ends, each) = absurd ends.2.2
       two-longer one two bounds_are (span ∷ within ∷ []) other is (own ∷ second ∷ [], ends, each) =
-          let parts = when-some (is_at known one span) (longer_of row (one ∷ []) (longer_span known two within)) other is in
-          let (new, new_is, same) = longer-some row (one ∷ []) (longer_span known two within) other parts.1 in
-          by numbers refl (subst (λ (b : List Bound). AreNumbers After b numbers) bounds_are at) parts.0 new new_is same
+          by numbers refl (subst (λ (b : List Bound). AreNumbers After b numbers) bounds_are at)
         where
+          -- a span that is just an index has its number
+          is-within : (bound : Bound) (span : Span) (own : Numbers) (number : ℤ) → IsBound After bound number → IsBound After span.first own.first
+              → IsBound After span.last own.last → is_at known bound span ≡ true → (own.first ≤ℤ number) × (number ≤ℤ own.last)
+          is-within bound span own number is_number first_is last_is at_it =
+              let both =
+              and_parts (le known span.first bound && le known bound span.first) (le known span.last bound && le known bound span.last) at_it in
+              let low = and_parts (le known span.first bound) (le known bound span.first) both.0 in
+              let high = and_parts (le known span.last bound) (le known bound span.last) both.1 in (
+                le-is rows After known told span.first bound own.first number first_is is_number low.0,
+                le-is rows After known told bound span.last number own.last is_number last_is high.1,
+              )
+
           widened : (indexes : List ℤ) (number : ℤ) → own.first ≤ℤ number → number ≤ℤ own.last
               → LieBetween (just number ∷ record { first = second.first; last = second.last } ∷ []) indexes → LieBetween (own ∷ second ∷ []) indexes
           widened [] number low high lie = absurd lie
@@ -333,21 +357,37 @@ module _ (rows : List Parts) (table : Table) (are : AreRows rows table) (env : E
               let to = lie.1 in
               (omega (arith, ints, low, from), omega (arith, ints, to, high), lie.2)
 
-          by : (all : List ℤ) → numbers ≡ all → AreNumbers After (one ∷ two ∷ []) all → is_at known one span ≡ true → (new : Span)
-              → longer_span known two within ≡ Some new → stretched row (point one ∷ new ∷ []) ≡ other → HoldsAfter other
-          by [] all_are none at_one new new_is same = absurd none
-          by (number ∷ []) all_are none at_one new new_is same = absurd none.1
-          by (number ∷ next ∷ third ∷ all) all_are none at_one new new_is same = absurd none.1.1
-          by (number ∷ next ∷ []) all_are (is_number, is_next_number) at_one new new_is same =
-              let both =
-              and_parts (le known span.first one && le known one span.first) (le known span.last one && le known one span.last) at_one in
-              let low = and_parts (le known span.first one) (le known one span.first) both.0 in
-              let high = and_parts (le known span.last one) (le known one span.last) both.1 in
-              let first_low = le-is rows After known told span.first one own.first number ends.0 is_number low.0 in
-              let last_high = le-is rows After known told one span.last number own.last is_number ends.1 high.1 in
+          widened-behind : (indexes : List ℤ) (number : ℤ) → second.first ≤ℤ number → number ≤ℤ second.last
+              → LieBetween (record { first = own.first; last = own.last } ∷ just number ∷ []) indexes → LieBetween (own ∷ second ∷ []) indexes
+          widened-behind [] number low high lie = absurd lie
+          widened-behind (index ∷ []) number low high lie = absurd lie.2
+          widened-behind (index ∷ next ∷ indexes) number low high lie =
+              let from = lie.2.0 in
+              let to = lie.2.1 in
+              (lie.0, lie.1, (omega (arith, ints, low, from), omega (arith, ints, to, high), lie.2.2))
+
+          by : (all : List ℤ) → numbers ≡ all → AreNumbers After (one ∷ two ∷ []) all → HoldsAfter other
+          by [] all_are none = absurd none
+          by (number ∷ []) all_are none = absurd none.1
+          by (number ∷ next ∷ third ∷ all) all_are none = absurd none.1.1
+          by (number ∷ next ∷ []) all_are (is_number, is_next_number) =
+              ⊎_elim
+              (λ (first : (is_at known one span ≡ true) × (longer_of row (one ∷ []) [] (longer_span known two within) ≡ Some other)).
+              let (new, new_is, same) = longer-some row (one ∷ []) [] (longer_span known two within) other first.1 in
+              let (low, high) = is-within one span own number is_number ends.0 ends.1 first.0 in
               subst HoldsAfter same
-              (longer-holds (one ∷ []) (number ∷ []) (is_number, tt) two next is_next_number.0 all_are within new second.first second.last ends.2.0 ends.2.1
-              (λ steps index of_row first lie. each steps index of_row first (widened (indexes_of steps) number first_low last_high lie)) new_is)
+              (longer-holds (one ∷ []) (number ∷ []) (is_number, tt) [] [] tt two next is_next_number.0 all_are within new second.first second.last ends.2.0
+              ends.2.1 (λ steps index of_row first lie. each steps index of_row first (widened (indexes_of steps) number low high lie)) new_is))
+              (λ (rest : cond (has known.rules Boxes && is_at known two within) (longer_of row [] (two ∷ []) (longer_span known one span)) None ≡ Some other).
+              let parts = when-some (has known.rules Boxes && is_at known two within) (longer_of row [] (two ∷ []) (longer_span known one span)) other rest in
+              let (new, new_is, same) = longer-some row [] (two ∷ []) (longer_span known one span) other parts.1 in
+              let at_two = and_parts (has known.rules Boxes) (is_at known two within) parts.0 in
+              let (low, high) = is-within two within second next is_next_number.0 ends.2.0 ends.2.1 at_two.1 in
+              subst HoldsAfter same
+              (longer-holds [] [] tt (two ∷ []) (next ∷ []) (is_next_number.0, tt) one number is_number all_are span new own.first own.last ends.0 ends.1
+              (λ steps index of_row first lie. each steps index of_row first (widened-behind (indexes_of steps) next low high lie)) new_is))
+              (one-of (is_at known one span) (longer_of row (one ∷ []) [] (longer_span known two within))
+              (cond (has known.rules Boxes && is_at known two within) (longer_of row [] (two ∷ []) (longer_span known one span)) None) other is)
 
       spans-longer : (indexes : List Bound) → bounds ≡ indexes → (spans : List Span) (other : Held) → longer_by known row indexes spans ≡ Some other
           → StretchHolds rows (record { row = row; spans = spans }) After → HoldsAfter other

@@ -20,10 +20,14 @@ use Rattle.typed_tree.specs.declared.tree.Expr.TheFolds.{fold-Expr, fold-Link}
 use Rattle.typed_tree.specs.Accesses.{origin_of}
 use Rattle.typed_tree.specs.Calls.{holds_call}
 use Rattle.domain.specs.Interval.{Interval, always_true, at_least, at_most, never_true}
+use Rattle.domain.specs.declared.versions.Version.{Version}
 use Rattle.checker_state.specs.Bounds.{Bound}
-use Rattle.checker_state.specs.State.{State, Dead, bound_range, range_of, unless_empty, with_range}
+use Rattle.checker_state.specs.State.{State, Dead, Live, bound_range, range_of, unless_empty, with_range}
 use Rattle.checker_state.specs.Changes.{ordered, with_some}
-use Rattle.checker_state.specs.Forms.{Form, Literal, Other, Operand, access_form, bound_of, chain_form, sign_form}
+use Rattle.checker_state.specs.declared.forms.Form.{Form}
+use Rattle.checker_state.specs.declared.forms.Form.TheVariants.{Fixed, Other}
+use Rattle.checker_state.specs.declared.forms.Spelling.TheVariants.{Literal}
+use Rattle.checker_state.specs.Forms.{Operand, access_form, bound_of, chain_form, sign_form}
 
 -- ---- bounds
 
@@ -146,10 +150,11 @@ abbrev pub operation_refined : Dyadic → Bool → Option Bound → Option Bound
 operation_refined (dyadic.Relation r) truth left right state = related_forms (told r truth) left right state
 operation_refined operation truth left right state = state
 
--- a single operator
+-- a single operator, by the rules by which the state is known
 abbrev pub single_refined : Bool → Form → List Conjunct → State → State
-single_refined truth left (conjunct ∷ []) state =
-    operation_refined conjunct.operation truth (bound_of left) (bound_of conjunct.right.form) state
+single_refined truth left (conjunct ∷ []) (Live known) =
+    operation_refined conjunct.operation truth (bound_of known.rules left)
+    (bound_of known.rules conjunct.right.form) (Live known)
 single_refined truth left conjuncts state = state
 
 -- a chain of operators
@@ -178,7 +183,7 @@ unless_excluded truth range state = if (if truth then never_true range else alwa
 -- by what is told of variables, which of them are ordinals
 module _ (ordinal : ℕ → Bool) where
   abbrev pub condition_step : Expr-F Condition (Unit {0}) Conjunct → Condition
-  condition_step (Constant number value) = record { form = Literal value; refined = λ truth state. state }
+  condition_step (Constant number value) = record { form = Fixed Literal value; refined = λ truth state. state }
   condition_step (Variable access indexes holds defined) =
       record { form = access_form ordinal (origin_of access) access.selectors.items; refined = λ truth state. state }
   condition_step (MonadicOf number operation operand) = record {
@@ -203,9 +208,9 @@ module _ (ordinal : ℕ → Bool) where
   abbrev pub conjunct_of : Link → Conjunct
   conjunct_of = fold-Link Condition (Unit {0}) Conjunct condition_step passed_condition link_condition
 
-  -- the bound that an expression is, if it is a bound form
-  abbrev pub bound_form : Expr → Option Bound
-  bound_form expression = bound_of (condition_of expression).form
+  -- the bound that an expression is, if it is a bound form by the rules of a version
+  abbrev pub bound_form : Version → Expr → Option Bound
+  bound_form version expression = bound_of version (condition_of expression).form
 
   -- what is known where a condition had a truth value; a call in it may have changed what it says
   abbrev pub refined : Bool → Expr → State → State

@@ -9,6 +9,7 @@ use Rattle.members.specs.Members.{can_be_member, empty, of_one, of_range, of_two
 use Rattle.members.specs.declared.sets.Operator.{Operator}
 use Rattle.members.specs.declared.sets.Operator.TheVariants as operator
 use Rattle.domain.specs.declared.growth.Growth.{Growth}
+use Rattle.domain.specs.declared.versions.Version.{Version}
 use Rattle.domain.specs.Growths.{HasPair}
 use Rattle.domain.specs.Interval.{Interval, HasMember, common, is_included}
 use Rattle.meaning.specs.declared.value.Value.{Value}
@@ -57,9 +58,9 @@ GivenHolds =
 -- the value of an expression of a bound form is its bound
 abbrev pub FormsTell : Type 0
 FormsTell =
-    (ordinal : ℕ → Bool) (expression : Expr) (env : Surroundings) (s t : effect.State) (v : Value)
+    (ordinal : ℕ → Bool) (version : Version) (expression : Expr) (env : Surroundings) (s t : effect.State) (v : Value)
     → value_of expression env s ≡ Gives v t → HoldNumbers ordinal (moment env.visible t.store)
-    → IsOfForm (moment env.visible t.store) (bound_form ordinal expression) v
+    → IsOfForm (moment env.visible t.store) (bound_form ordinal version expression) v
 
 -- after a value was written to a variable, which its aliases may have then too, and no other changed, what is known
 -- after its assignment holds

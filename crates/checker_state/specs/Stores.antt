@@ -4,7 +4,9 @@ use Rattle.std.specs.Prelude.{ℕ, ℤ, Bool, true, false, ◌&&◌, ◌||◌, L
 use Rattle.std.specs.Prelude.{if◌then◌else◌, filter, map, nat_eq}
 use Rattle.std.specs.List.{filter_map}
 use Rattle.types.specs.declared.form.OrdinalRange.{OrdinalRange}
+use Rattle.domain.specs.declared.versions.Extension.TheVariants.{Boxes}
 use Rattle.domain.specs.Interval.{Interval, joined}
+use Rattle.domain.specs.Versions.{has}
 use Rattle.checker_state.specs.Bounds.{Bound, constant}
 use Rattle.checker_state.specs.Changes.{span_between}
 use Rattle.checker_state.specs.State.{Claim, Dead, Defined, Facts, Held, Live, Span, State, Stretch, Table, all_indexes}
@@ -112,16 +114,19 @@ abbrev pub is_at : Facts → Bound → Span → Bool
 is_at known one span =
     (le known span.first one && le known one span.first) && (le known span.last one && le known one span.last)
 
--- a stretch of single indexes and of a last span
-abbrev pub longer_of : ℕ → List Bound → Option Span → Option Held
-longer_of row front None = None
-longer_of row front (Some span) = Some (stretched row (map point front ++ span ∷ []))
+-- a stretch of a span and of single indexes before and behind it
+abbrev pub longer_of : ℕ → (front back : List Bound) → Option Span → Option Held
+longer_of row front back None = None
+longer_of row front back (Some span) = Some (stretched row (map point front ++ span ∷ map point back))
 
--- a stretch of so many spans that others make longer: of two spans the first has to be just the first index
+-- a stretch of so many spans that others make longer: of two spans one has to be just its index, in a version without
+-- boxes the first
 abbrev pub longer_by : Facts → ℕ → List Bound → List Span → Option Held
-longer_by known row (one ∷ []) (span ∷ []) = longer_of row [] (longer_span known one span)
+longer_by known row (one ∷ []) (span ∷ []) = longer_of row [] [] (longer_span known one span)
 longer_by known row (one ∷ two ∷ []) (span ∷ inner ∷ []) =
-    if is_at known one span then longer_of row (one ∷ []) (longer_span known two inner) else None
+    if is_at known one span then longer_of row (one ∷ []) [] (longer_span known two inner)
+    else if has known.rules Boxes && is_at known two inner then longer_of row [] (two ∷ []) (longer_span known one span)
+    else None
 longer_by known row indexes spans = None
 
 abbrev pub longer_stretch : Facts → ℕ → List Bound → Option Stretch → Option Held

@@ -11,8 +11,10 @@ use Rattle.typed_tree.specs.declared.tree.Expr.TheVariants as expr
 use Rattle.typed_tree.specs.declared.tree.Tree.{Tree}
 use Rattle.checker_rows.specs.Rows.{is_ordinal_variable}
 use Rattle.checker_trail.specs.declared.state.State.{State as Kept}
-use Rattle.checker_state.specs.State.{State}
-use Rattle.checker_state.specs.Forms.{Form, bound_of}
+use Rattle.checker_state.specs.State.{Dead, Facts, Live, State}
+use Rattle.checker_state.specs.declared.forms.Form.{Form}
+use Rattle.checker_state.specs.Forms.{bound_of}
+use Rattle.checker_known.specs.Knowledge.{core, viewed}
 use Rattle.checker_state.specs.Conditions.{Condition, Conjunct, all_refined, bound_form}
 use Rattle.checker_state.specs.Conditions.{chain_refined, condition_of, conjunct_of, operation_refined, single_refined}
 use Rattle.checker_state.specs.Conditions.{takes_both}
@@ -64,15 +66,29 @@ single-none ordinal [] truth form state several = refl
 single-none ordinal (link ∷ []) truth form state several = absurd (several refl)
 single-none ordinal (link ∷ next ∷ links) truth form state several = refl
 
-pub single-one : (ordinal : ℕ → Bool) (links : List Link) (truth : Bool) (form : Form) (state : State) (link : Link) → length links ≡ 1
+-- no run comes here, or these facts are known
+pub single-dead : (conjuncts : List Conjunct) (truth : Bool) (form : Form) → Dead ≡ single_refined truth form conjuncts Dead
+single-dead [] truth form = refl
+single-dead (conjunct ∷ []) truth form = refl
+single-dead (conjunct ∷ next ∷ conjuncts) truth form = refl
+
+pub seen-dead : (state : Kept) → state.known.is_dead ≡ true → seen state ≡ Dead
+seen-dead state is = ap (λ (dead : Bool). cond dead Dead (Live (viewed (core state.known)))) is
+
+pub seen-live : (state : Kept) → state.known.is_dead ≡ false → seen state ≡ Live (viewed (core state.known))
+seen-live state is = ap (λ (dead : Bool). cond dead Dead (Live (viewed (core state.known)))) is
+
+pub single-one : (ordinal : ℕ → Bool) (links : List Link) (truth : Bool) (form : Form) (facts : Facts) (link : Link) → length links ≡ 1
     → get_or links 0 link ≡ link
-    → operation_refined link.operation truth (bound_of form) (bound_form ordinal link.operand) state
-    ≡ single_refined truth form (map (conjunct_of ordinal) links) state
-single-one ordinal [] truth form state link one link_is = absurd (omega (arith, one))
-single-one ordinal (own ∷ next ∷ links) truth form state link one link_is = absurd (omega (arith, one))
-single-one ordinal (own ∷ []) truth form state link one link_is =
-    ap (λ (l : Link). operation_refined l.operation truth (bound_of form) (bound_form ordinal l.operand) state) (sym link_is)
-    ∙ ap (λ (c : Conjunct). operation_refined c.operation truth (bound_of form) (bound_of c.right.form) state) (sym (conjunct-is ordinal own))
+    → operation_refined link.operation truth (bound_of facts.rules form) (bound_form ordinal facts.rules link.operand) (Live facts)
+    ≡ single_refined truth form (map (conjunct_of ordinal) links) (Live facts)
+single-one ordinal [] truth form facts link one link_is = absurd (omega (arith, one))
+single-one ordinal (own ∷ next ∷ links) truth form facts link one link_is = absurd (omega (arith, one))
+single-one ordinal (own ∷ []) truth form facts link one link_is =
+    let rules = facts.rules in
+    ap (λ (l : Link). operation_refined l.operation truth (bound_of rules form) (bound_form ordinal rules l.operand) (Live facts)) (sym link_is)
+    ∙ ap (λ (c : Conjunct). operation_refined c.operation truth (bound_of rules form) (bound_of rules c.right.form) (Live facts))
+    (sym (conjunct-is ordinal own))
 
 -- ---- the operators that are left
 

@@ -5,3 +5,4 @@ pub mod Turns
 pub mod Elements
 pub mod Meeting
 pub mod Outside
+pub mod ShorterWays

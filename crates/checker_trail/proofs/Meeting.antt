@@ -76,7 +76,7 @@ module _ (state : ℕ → RowState) where
       (λ row within. each-done numbers start row (omega (arith, many)) (known row within))
 
 -- rows that are set are settled
-with-settled : (state : ℕ → RowState) (numbers : List ℕ) (rows : List (ℕ × Row)) (facts : Facts)
+pub with-settled : (state : ℕ → RowState) (numbers : List ℕ) (rows : List (ℕ × Row)) (facts : Facts)
     → map said_at rows ≡ map (λ (row : ℕ). let one : ℕ × RowState = (row, state row) in one) numbers
     → with_rows rows (Live facts) ≡ Live (record facts { rows = settled state numbers facts.rows })
 with-settled state [] [] facts same = refl
@@ -149,7 +149,7 @@ module _ (row : ℕ) where
   rows-kept (change.Died ∷ changes) from = rows-kept changes (made change.Died from)
   rows-kept (change.Revived ∷ changes) from = rows-kept changes (made change.Revived from)
 
-count-kept : (changes : List Change) (from : Core) → length (redone changes from).rows ≡ length from.rows
+pub count-kept : (changes : List Change) (from : Core) → length (redone changes from).rows ≡ length from.rows
 count-kept [] from = refl
 count-kept (change.Row own was now ∷ changes) from =
     count-kept changes (made (change.Row own was now) from) ∙ length-set from.rows own now
@@ -237,7 +237,7 @@ module _ (table : Table) (one there : Core) (rows : List ℕ) (told : Told) (are
       known-are (with_more (said_all more) (kept_by told.kept.items (said_all one.held)))
       ∙ ap₂ (λ (all : List RowState) (held : List Held). Live (record { rows = all; held = held; rules = one.rules })) rows-are held-are
 
-core-live : (from : Core) → from.is_dead ≡ false → seen_core from ≡ Live (viewed from)
+pub core-live : (from : Core) → from.is_dead ≡ false → seen_core from ≡ Live (viewed from)
 core-live from is = ap (λ (dead : Bool). cond dead Dead (Live (viewed from))) is
 
 -- what is told of both ways is known behind them

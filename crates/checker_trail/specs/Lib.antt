@@ -1,2 +1,3 @@
 pub mod Trail
 pub mod Meets
+pub mod Shorter

@@ -64,11 +64,14 @@ impl<'a> State<'a> {
         if rest.len() != 1 {
             return;
         }
+        if self.known.is_dead {
+            return;
+        }
         let link = &rest[0];
         self.refine_operation(
             link.operation,
-            bound_form(self.table, first),
-            bound_form(self.table, &link.operand),
+            bound_form(self.known.rules, self.table, first),
+            bound_form(self.known.rules, self.table, &link.operand),
             truth,
         )
     }

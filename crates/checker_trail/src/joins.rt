@@ -17,14 +17,8 @@ impl<'a> State<'a> {
         ensures meets { (start : Kept) (end : Core) → mark.length ≡ length start.trail.items
             → TrailGoes start self.old → EndsAt (core start.known) other.now end → Joins start end self.old self.new }
     {
-        if other.is_dead {
-            return;
-        }
-        if self.known.is_dead {
-            let _dead = self.leave(mark);
-            return self.go(other);
-        }
-        self.meet(mark, other);
+        self.come_together(mark, other);
+        self.shorten(mark);
     }
 
     /// What is known where the way since a mark meets a branch that began there and was walked before it.
@@ -37,6 +31,22 @@ impl<'a> State<'a> {
         let here = self.leave(mark);
         self.go(first);
         self.join(mark, &here);
+    }
+
+    // The same, on a way that may go over all that both did.
+    fn come_together(&mut self, mark: Mark, other: &Branch)
+        ensures long { self.new.refused ≡ None → self.old.refused ≡ None }
+        ensures meets { (start : Kept) (end : Core) → mark.length ≡ length start.trail.items
+            → TrailGoes start self.old → EndsAt (core start.known) other.now end → Joins start end self.old self.new }
+    {
+        if other.is_dead {
+            return;
+        }
+        if self.known.is_dead {
+            let _dead = self.leave(mark);
+            return self.go(other);
+        }
+        self.meet(mark, other);
     }
 
     // The same where runs come to the ends of both.
@@ -86,8 +96,8 @@ impl<'a> State<'a> {
         self.set_rows(&rows);
     }
 
-    // Something else is known of rows.
-    fn set_rows(&mut self, rows: &[(usize, Row)])
+    /// Something else is known of rows.
+    pub(crate) fn set_rows(&mut self, rows: &[(usize, Row)])
         ensures { Moves (with_rows rows.now) self.old self.new }
     {
         for (row, known) in rows {

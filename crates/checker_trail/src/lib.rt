@@ -6,6 +6,7 @@ mod conditions;
 mod growths;
 mod joins;
 mod loops;
+mod shorter;
 mod start;
 mod state;
 mod stores;

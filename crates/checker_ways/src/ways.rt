@@ -18,7 +18,7 @@ use checker_loops::Round;
 use checker_rows::Rows;
 use checker_state::{Bound, Known, bound_form};
 use checker_trail::State;
-use domain::Interval;
+use domain::{Interval, Version};
 use typed_tree::{Direction, Expr, Fitted, ForHead, RangeTest, Relation, holds_call};
 
 /// A bound of a for statement.
@@ -32,25 +32,25 @@ pub struct End {
 
 impl End {
     /// A bound with what is known of its value.
-    fn new(rows: &Rows, bound: &Fitted, known: Known) -> End
-        ensures { said_end result ≡ end_of (is_ordinal_variable rows.now) bound.now known }
+    fn new(version: Version, rows: &Rows, bound: &Fitted, known: Known) -> End
+        ensures { said_end result ≡ end_of (is_ordinal_variable rows.now) version bound.now known }
     {
         End {
-            form: bound_form(rows, &bound.value),
+            form: bound_form(version, rows, &bound.value),
             fits: bound.fits,
             values: known.range(),
         }
     }
 
     /// A bound behind which another was evaluated.
-    fn before(rows: &Rows, bound: &Fitted, later: &Expr, known: Known) -> End
-        ensures { said_end result ≡ record (end_of (is_ordinal_variable rows.now) bound.now known) {
-          form = form_before (is_ordinal_variable rows.now) bound.now.value later.now;
+    fn before(version: Version, rows: &Rows, bound: &Fitted, later: &Expr, known: Known) -> End
+        ensures { said_end result ≡ record (end_of (is_ordinal_variable rows.now) version bound.now known) {
+          form = form_before (is_ordinal_variable rows.now) version bound.now.value later.now;
         } }
     {
         End {
-            form: form_before(rows, &bound.value, later),
-            ..End::new(rows, bound, known)
+            form: form_before(version, rows, &bound.value, later),
+            ..End::new(version, rows, bound, known)
         }
     }
 
@@ -66,13 +66,13 @@ impl End {
 }
 
 /// The form of an expression behind which another was evaluated: one that holds a call may have changed what it says.
-fn form_before(rows: &Rows, expression: &Expr, later: &Expr) -> Option<Bound>
-    ensures { said_form result ≡ form_before (is_ordinal_variable rows.now) expression.now later.now }
+fn form_before(version: Version, rows: &Rows, expression: &Expr, later: &Expr) -> Option<Bound>
+    ensures { said_form result ≡ form_before (is_ordinal_variable rows.now) version expression.now later.now }
 {
     if holds_call(later) {
         return None;
     }
-    bound_form(rows, expression)
+    bound_form(version, rows, expression)
 }
 
 /// The numbers of a range that a bound may be.
@@ -95,14 +95,14 @@ pub struct Way {
 
 impl Way {
     /// The way of a for statement, from what is known of the values of its bounds.
-    pub fn of(rows: &Rows, head: &ForHead, from: Known, to: Known) -> Way
-        ensures { said_way result ≡ way_of (is_ordinal_variable rows.now) head.now from to }
+    pub fn of(version: Version, rows: &Rows, head: &ForHead, from: Known, to: Known) -> Way
+        ensures { said_way result ≡ way_of (is_ordinal_variable rows.now) version head.now from to }
     {
         Way {
             control: head.control,
             direction: head.direction,
-            first: End::before(rows, &head.first, &head.last.value, from),
-            last: End::new(rows, &head.last, to),
+            first: End::before(version, rows, &head.first, &head.last.value, from),
+            last: End::new(version, rows, &head.last, to),
         }
     }
 

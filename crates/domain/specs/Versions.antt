@@ -2,19 +2,22 @@
 -- does not say how one is spelled.
 use Rattle.std.specs.Prelude.{ℕ, Bool, nat_le, if◌then◌else◌}
 use Rattle.domain.specs.declared.versions.Extension.{Extension}
-use Rattle.domain.specs.declared.versions.Extension.TheVariants.{Blocks, Growths}
+use Rattle.domain.specs.declared.versions.Extension.TheVariants.{Blocks, Boxes, Constants, Growths}
 use Rattle.domain.specs.declared.versions.Version.{Version}
-use Rattle.domain.specs.declared.versions.Version.TheVariants.{One, Two}
+use Rattle.domain.specs.declared.versions.Version.TheVariants.{One, Three, Two}
 
 -- the number that a version's first line names
 abbrev pub number : Version → ℕ
 number One = 1
 number Two = 2
+number Three = 3
 
 -- the number of the first version that has an extension
 abbrev pub since : Extension → ℕ
 since Blocks = 2
 since Growths = 2
+since Constants = 3
+since Boxes = 3
 
 abbrev pub has : Version → Extension → Bool
 has version extension = nat_le (since extension) (number version)

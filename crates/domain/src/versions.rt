@@ -8,6 +8,8 @@ pub enum Version {
     One,
     /// `pcert 2`.
     Two,
+    /// `pcert 3`.
+    Three,
 }
 
 /// What certificates have from some version on.
@@ -17,6 +19,10 @@ pub enum Extension {
     Blocks,
     /// Growths: how variables change with the turns of a for statement.
     Growths,
+    /// Constants: numbers that are calculated from constants alone are constants too.
+    Constants,
+    /// Boxes: what is known of components of elements, by the indexes on the way to them.
+    Boxes,
 }
 
 impl Version {
@@ -34,6 +40,7 @@ impl Version {
         match self {
             Version::One => 1,
             Version::Two => 2,
+            Version::Three => 3,
         }
     }
 }
@@ -45,6 +52,7 @@ impl Extension {
     {
         match self {
             Extension::Blocks | Extension::Growths => 2,
+            Extension::Constants | Extension::Boxes => 3,
         }
     }
 }

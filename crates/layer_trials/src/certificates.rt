@@ -48,10 +48,10 @@ static WIDEST: [(&str, &str); 2] = [
     (
         "program p; var a: integer; procedure q(var b: integer; c: integer); var d: integer;
         begin while false do end; procedure r; begin end; begin while false do end.",
-        "pcert 2\nproc 0\nloop 1\nchange v0\nproc 1\nalias v0 v1\nchange v0\nchange v1\nchange v2\nloop 0\nchange v0\n\
+        "pcert 3\nproc 0\nloop 1\nchange v0\nproc 1\nalias v0 v1\nchange v0\nchange v1\nchange v2\nloop 0\nchange v0\n\
          change v1\nchange v2\nchange v3\nproc 2\nchange v0\n",
     ),
-    ("program p; begin end.", "pcert 2\n"),
+    ("program p; begin end.", "pcert 3\n"),
 ];
 
 #[test]

@@ -39,12 +39,12 @@ pub fn widest(alloc: Global, tree: &Tree) -> Result<Certificate, AllocError>
 {
     if !has_numbers(tree) {
         return Ok(Certificate {
-            version: Version::Two,
+            version: Version::Three,
             sections: Vec::new(alloc),
         });
     }
     Ok(Certificate {
-        version: Version::Two,
+        version: Version::Three,
         sections: sections(alloc, tree)?,
     })
 }

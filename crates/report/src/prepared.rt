@@ -10,6 +10,7 @@ use crate::compile::{Compiled, compile};
 use crate::ready::Ready;
 use crate::telling::{cannot_write, run_code, write_to};
 use crate::text::lines;
+use analyser::trimming::trimmed;
 use command_line::PcomWords;
 use outside::Outside;
 use pcode_assembler::Code;
@@ -48,7 +49,7 @@ pub(crate) fn prepare(
     ensures prepared { IfOk result (IsPrepared words.entry) }
     ensures refused { IfErr result (IsRefusal source.now (given certificate.entry)) }
 {
-    let compiled = compile(alloc, source, certificate)?;
+    let compiled = compiled(alloc, source, certificate, words.write_cert.is_some())?;
     let report = lines(alloc, &compiled.verdict)?;
     let certificate = certificate_for(alloc, words.write_cert, &compiled)?;
     let chosen = chosen(&compiled, words.keep_checks);
@@ -65,6 +66,34 @@ pub(crate) fn prepare(
         code,
         ready,
     })
+}
+
+// A source that is compiled; a certificate that is found and is to be written without facts that no site needs.
+fn compiled(
+    alloc: Global,
+    source: &[u8],
+    certificate: Option<&[u8]>,
+    is_to_be_written: bool,
+) -> Result<Compiled, Fault>
+    ensures compiled { IfOk result (IsCompiled source.now (given certificate.entry)) }
+    ensures refused { IfErr result (IsRefusal source.now (given certificate.entry)) }
+{
+    let mut compiled = compile(alloc, source, certificate)?;
+    if !is_to_be_written || certificate.is_some() {
+        return Ok(compiled);
+    }
+    match trimmed(
+        alloc,
+        &compiled.tree,
+        &compiled.certificate,
+        &compiled.verdict,
+    )? {
+        None => Ok(compiled),
+        Some(less) => {
+            compiled.certificate = less;
+            Ok(compiled)
+        }
+    }
 }
 
 // The spelling of the certificate that was used, where it is to be written to a path.

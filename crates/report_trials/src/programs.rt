@@ -35,7 +35,7 @@ pub(crate) fn run<'x>(
 // A program whose open site is closed by the certificate that is found, one in which a sum overflows, and one that is
 // refused.
 const COUNTS: &str =
-    "program p(output); var i: integer; begin i := 1; while i < 9 do i := i + 1; write(i:1) end.";
+    "program p(output); var i: integer; begin i := 1; while i <> 9 do i := i + 1; write(i:1) end.";
 
 const ERRS: &str = "program p; var x: integer; begin x := 2147483647; x := x + 1 end.";
 
@@ -63,7 +63,7 @@ static ACTS: [(&[&str], &str); 9] = [
     ),
     (
         &["pcom", "--write-cert", "a.cert", "--go", "p.pas"],
-        "read p.pas;write a.cert;tell;run;tell;|pcert 2\nproc 0\nloop 0\nchange v0\nfact range v0 1 9\n|9||0",
+        "read p.pas;write a.cert;tell;run;tell;|pcert 3\nproc 0\nloop 0\nchange v0\nfact range v0 1 9\n|9||0",
     ),
     (
         &["pcom", "errs.pas"],

@@ -78,7 +78,7 @@ fn source_sentence(alloc: Global, source: &&str) -> Result<String, Fault> {
 
 // The same of certificates of the least program.
 static CERTIFICATE_SENTENCES: [(&str, &str); 3] = [
-    ("pcert 3\n", "certificate:1: no certificate"),
+    ("pcert 4\n", "certificate:1: no certificate"),
     (
         "pcert 1\nproc 0\n",
         "certificate:2: a line out of its place",

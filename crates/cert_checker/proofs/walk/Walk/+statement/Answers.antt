@@ -13,7 +13,7 @@ use Rattle.checker_loops.specs.View.{claims_of_round, said_turns}
 use Rattle.checker_loops.specs.Ways.{Way, way_of, way_out, where_counts}
 use Rattle.checker_state.specs.Loops.{with_undefined}
 use Rattle.checker_expressions.specs.Visits.{all_counted}
-use Rattle.checker_expressions.specs.Walk.{Walking, ◌>>=◌, changed_by, give, value_walk, with_state}
+use Rattle.checker_expressions.specs.Walk.{Context, Walking, ◌>>=◌, changed_by, give, value_walk, with_state}
 use Rattle.cert_checker.specs.Walk.{all_of, begin_way, bounds_walk, branches, case_walk, choice_walk, either_of, for_turns, for_walk, from_entry}
 use Rattle.cert_checker.specs.Walk.{index_walk, parted}
 use Rattle.cert_checker.specs.Walk.{record_walk, repeat_round, with_walk}
@@ -186,14 +186,15 @@ for_loop-returns-clause-goes g t c =
     let body = statement_walk c.args.body.now in
     let from = c.expression-from.result in
     let to = c.expression-to.result in
-    let way : Known → Known → Tree → Way = λ from to tree. way_of (is_ordinal_variable tree) head from to in
+    let way : Known → Known → Context → Way = λ from to context. way_of (is_ordinal_variable context.tree) context.version head from to in
+    let own : Known → Known → Tree → Way = λ from to tree. way_of (is_ordinal_variable tree) c.expression-to.new.self.flow.grounds.version head from to in
     goes-from_entry head.number (bounds_walk head body)
-    (goes-then (value_walk head.first.value) (λ from. value_walk head.last.value >>= λ to context. for_walk head body (way from to context.tree) context)
+    (goes-then (value_walk head.first.value) (λ from. value_walk head.last.value >>= λ to context. for_walk head body (way from to context) context)
     c.expression-from.ensures.goes
-    (goes-then (value_walk head.last.value) (λ to context. for_walk head body (way from to context.tree) context) c.expression-to.ensures.goes
-    (goes-here (for_walk head body (said_way c.of-way.result)) (λ context. for_walk head body (way from to context.tree) context)
+    (goes-then (value_walk head.last.value) (λ to context. for_walk head body (way from to context) context) c.expression-to.ensures.goes
+    (goes-here (for_walk head body (said_way c.of-way.result)) (λ context. for_walk head body (way from to context) context)
     (ap (λ (w : Way). for_walk head body w (context_of c.expression-to.new.self) (state_of c.expression-to.new.self.flow))
-    (c.of-way.ensures ∙ ap (way from to) c.table.ensures)) c.for_statement.ensures.goes)))
+    (c.of-way.ensures ∙ ap (own from to) c.table.ensures)) c.for_statement.ensures.goes)))
 
 pub for_loop-returns-clause-counts : goal.for_loop-returns-clause-counts
 for_loop-returns-clause-counts g t c =

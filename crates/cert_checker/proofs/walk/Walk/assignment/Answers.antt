@@ -22,7 +22,8 @@ returns-clause-goes g c =
     (said_valued c.assigned_value-valued.result)
     c.fitting-passed.result c.deref.ensures.value c.access-reach.ensures.goes c.assigned_value-valued.ensures.goes (lifted c.fitting-passed.ensures)
     c.deref-2.ensures.value
-    (c.reach_stored-reach.ensures ∙ ap (λ (hold : Bool). reach_stored c.deref-2.result.now hold reach) c.holds_call.ensures)
+    (c.reach_stored-reach.ensures
+    ∙ ap (λ (hold : Bool). reach_stored tested.flow.grounds.version c.deref-2.result.now hold reach) c.holds_call-holds_call.ensures)
     (subst
     (λ (notes : List Noted). WalkGoes (assign_value assignment (said_reach c.reach_stored-reach.result) notes c.fitting-passed.result) tested new tt)
     c.deref-3.ensures.value c.assign_value.ensures)

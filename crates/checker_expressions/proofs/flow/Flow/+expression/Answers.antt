@@ -234,12 +234,13 @@ indexes-loop-i-preserved g t c =
     let reach = said_reach here.reach in
     let range = c.index-range.result in
     let ordinal = ordinal_in c.index-range.new.self in
-    let kept = is_kept c.index-range.new.self.grounds.version here.left.now in
-    let reach_is : said_reach c.deeper-reach.result ≡ deeper kept (index_at ordinal index more range) reach =
+    let version = c.index-range.new.self.grounds.version in
+    let kept = is_kept version here.left.now in
+    let reach_is : said_reach c.deeper-reach.result ≡ deeper kept (index_at ordinal version index more range) reach =
     c.deeper-reach.ensures ∙ ap₂ (λ (keeps : Bool) (form : Option Bound). deeper keeps (record { form = form; range = range }) reach) c.is_kept-keeps.ensures
     c.form_before-form.ensures
-    ∙ ap (λ (later : List Expr). deeper kept (index_at (is_ordinal_variable c.table.result.now) index later range) reach) (take_rest items (here.i + 1))
-    ∙ ap (λ (t : Tree). deeper kept (index_at (is_ordinal_variable t) index more range) reach) c.table.ensures in
+    ∙ ap (λ (later : List Expr). deeper kept (index_at (is_ordinal_variable c.table.result.now) version index later range) reach) (take_rest items (here.i + 1))
+    ∙ ap (λ (t : Tree). deeper kept (index_at (is_ordinal_variable t) version index more range) reach) c.table.ensures in
     record {
       goes = λ result new goes.
           here.invariant.goes result new
@@ -307,7 +308,7 @@ pub actual-returns-in-Value-clause-goes : goal.actual-returns-in-Value-clause-go
 actual-returns-in-Value-clause-goes g t c =
     let it = c.in-Value in
     let mid = c.fitting.new.self in
-    let form = form_by (ordinal_in mid) (piece_of it.value) in
+    let form = form_by (ordinal_in mid) mid.grounds.version (piece_of it.value) in
     let last = λ (passed : Known) (context : Context). give (OfValue (known_range passed) (form_in context (piece_of it.value))) context in
     let behind = λ (known : Known). fitting it.fits known >>= last in
     goes-as (sym (ap (λ (actual : Passed). (passed_piece_of actual).walk) it.is ∙ passed-Value it.value it.fits))
@@ -315,8 +316,8 @@ actual-returns-in-Value-clause-goes g t c =
     (goes-then (fitting it.fits c.expression-known.result) last c.fitting.ensures
     (goes-alike (give (OfValue (known_range c.fitting.result) form)) (last c.fitting.result) (λ claims. refl)
     (goes-as (ap give (ap₂ OfValue c.range-range.ensures
-    (c.bound_form.ensures ∙ sym (bound-same (is_ordinal_variable c.table.result.now) it.value)
-    ∙ ap (λ (t : Tree). form_by (is_ordinal_variable t) (piece_of it.value)) c.table.ensures)))
+    (c.bound_form.ensures ∙ sym (bound-same (is_ordinal_variable c.table.result.now) mid.grounds.version it.value)
+    ∙ ap (λ (t : Tree). form_by (is_ordinal_variable t) mid.grounds.version (piece_of it.value)) c.table.ensures)))
     (goes-give _ mid)))))
 
 pub actual-returns-in-Whole-clause-goes : goal.actual-returns-in-Whole-clause-goes
