@@ -20,7 +20,7 @@ TOP = os.path.dirname(os.path.dirname(os.path.realpath(__file__)))
 OUT = os.path.join(TOP, "out")
 # The programs that people run; and that which only tests and measurements run.
 MAIN_PROGRAMS = ("pcom", "pint")
-PROGRAMS = (*MAIN_PROGRAMS, "trials_measure")
+PROGRAMS = (*MAIN_PROGRAMS, "pwhy", "trials_measure")
 PROVED, TRIED = KINDS = ("proved", "tried")
 # The folders of a crate of which a program is made, by the kind of the program: without proofs the code is enough.
 PARTS = {PROVED: ("src", "specs", "proofs", "c"), TRIED: ("src", "c")}

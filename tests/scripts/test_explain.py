@@ -55,7 +55,7 @@ class ExplainCase(unittest.TestCase):
         return [sys.executable, os.path.join(self.top, "bin", "explain"), *words]
 
     def environment(self):
-        return {**os.environ, "PCOM": self.program, "PYTHONIOENCODING": self.encoding}
+        return {**os.environ, "PCOM": self.program, "PWHY": "", "PYTHONIOENCODING": self.encoding}
 
     def explain(self, *words, **given):
         given = {"stdout": subprocess.PIPE, "stderr": subprocess.PIPE, "cwd": self.folder, "input": b"", **given}

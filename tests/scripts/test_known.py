@@ -254,7 +254,7 @@ end.
         before = resource.getrusage(resource.RUSAGE_CHILDREN)
         path = self.put(text.encode())
         words = [sys.executable, os.path.join(TOP, "bin", "explain"), "--why", path]
-        environment = {**os.environ, "PCOM": PROGRAM}
+        environment = {**os.environ, "PCOM": PROGRAM, "PWHY": ""}
         said = subprocess.run(words, env=environment, stderr=subprocess.PIPE, timeout=SECONDS).stderr
         after = resource.getrusage(resource.RUSAGE_CHILDREN)
         self.assertEqual(said.count(b" lies in -2147483647..2147483647\n"), 10)

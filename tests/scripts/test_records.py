@@ -110,7 +110,7 @@ class RecordsCase(unittest.TestCase):
     def explain(self, *words, program=PROGRAM, **given):
         """What is written to standard error."""
         command = [sys.executable, os.path.join(TOP, "bin", "explain"), *words]
-        environment = {**os.environ, "PCOM": program, "PYTHONIOENCODING": "utf-8"}
+        environment = {**os.environ, "PCOM": program, "PWHY": "", "PYTHONIOENCODING": "utf-8"}
         streams = {"stdin": subprocess.DEVNULL, "stdout": subprocess.PIPE, "stderr": subprocess.PIPE}
         ran = subprocess.run(command, cwd=self.folder, env=environment, timeout=SECONDS, **{**streams, **given})
         self.assertNotIn(b"Traceback", ran.stderr)
@@ -423,7 +423,7 @@ class Colours(RecordsCase):
         """What a terminal gets of standard error."""
         ours, theirs = pty.openpty()
         command = [sys.executable, os.path.join(TOP, "bin", "explain"), *words]
-        environment = {**os.environ, "PCOM": PROGRAM, "TERM": "xterm", **variables}
+        environment = {**os.environ, "PCOM": PROGRAM, "PWHY": "", "TERM": "xterm", **variables}
         if "NO_COLOR" not in variables:
             environment.pop("NO_COLOR", None)
         streams = {"stdin": subprocess.DEVNULL, "stdout": subprocess.DEVNULL, "stderr": theirs}

@@ -35,7 +35,7 @@ class Page(unittest.TestCase):
                 with open(os.path.join(folder, words[-1]), "w", encoding="utf-8") as file:
                     file.write(source)
                 command = [sys.executable, os.path.join(TOP, "bin", "explain"), *words]
-                environment = {**os.environ, "PCOM": PROGRAM}
+                environment = {**os.environ, "PCOM": PROGRAM, "PWHY": ""}
                 streams = {"stdin": subprocess.DEVNULL, "stdout": subprocess.PIPE, "stderr": subprocess.STDOUT}
                 ran = subprocess.run(command, cwd=folder, env=environment, timeout=SECONDS, **streams)
                 self.assertEqual(ran.stdout.decode(), shown)

@@ -7,6 +7,7 @@ ghost use Rattle.cert_checker.specs.Promise.{IsAccepted};
 ghost use Rattle.typed_tree.specs.WellFormed.{IsWellFormed};
 
 use crate::outcome::drop_vacant;
+use crate::spots::{Revision, Spot};
 use analyser_claims::{Event, events_of, number_of};
 use cert_checker::laws::plain_is_accepted;
 use cert_checker::{Verdict, check};
@@ -27,14 +28,6 @@ pub struct Found {
     pub certificate: Certificate,
     /// None of one that is accepted by a law, without a check.
     pub verdict: Option<Verdict>,
-}
-
-// Where facts stand: at a loop, or where a block begins or ends.
-#[derive(Clone, Copy, PartialEq, Eq)]
-enum Spot {
-    Loop(u32),
-    Entry(u32),
-    Exit(u32),
 }
 
 /// A certificate, or what is left of it, as far as the checker accepts it; else that without facts which lists all. It
@@ -59,7 +52,7 @@ pub fn accepted(
         drop_vacant(&mut left);
         match settled(alloc, tree, &left)? {
             Ok(settled) => return Ok(settled),
-            Err(spot) => lose(&mut left, spot),
+            Err(spot) => Revision::Weaken(spot).make(&mut left),
         }
         *refusals = refusals.saturating_add(1);
     }
@@ -120,18 +113,13 @@ fn spot_at(alloc: Global, tree: &Tree, place: Place) -> Result<Option<Spot>, All
             return Ok(Some(Spot::Exit(number_of(number))));
         }
         for event in &events_of(alloc, &block.body)? {
-            match event {
-                Event::Enter {
-                    number,
-                    place: at,
-                    ..
-                } if is_same(*at, place) => {
-                    return Ok(Some(Spot::Loop(*number)));
-                }
-                Event::Call { call, .. } if is_same(call.name, place) => {
-                    return Ok(Some(Spot::Entry(call.block)));
-                }
-                _ => {}
+            let (spot, at) = match event {
+                Event::Enter { number, place, .. } => (Spot::Loop(*number), *place),
+                Event::Call { call, .. } => (Spot::Entry(call.block), call.name),
+                _ => continue,
+            };
+            if is_same(at, place) {
+                return Ok(Some(spot));
             }
         }
     }
@@ -142,23 +130,10 @@ fn is_same(place: Place, other: Place) -> bool {
     place.line == other.line && place.column == other.column
 }
 
-// Lets the facts of the weakest kind go that stand there; of each place, where none is told.
-fn lose(certificate: &mut Certificate, told: Option<Spot>) {
-    for section in certificate.sections.iter_mut() {
-        thin(&mut section.entry, told, Spot::Entry(section.block));
-        thin(&mut section.exit, told, Spot::Exit(section.block));
-        for claims in section.loops.iter_mut() {
-            thin(&mut claims.facts, told, Spot::Loop(claims.number));
-        }
-    }
-}
-
-// Lets the facts of the weakest kind go, if theirs is the place that is told.
-fn thin(facts: &mut Vec<Fact>, told: Option<Spot>, spot: Spot) {
-    if told.unwrap_or(spot) == spot {
-        if let Some(weakest) = facts.iter().map(strength).min() {
-            facts.retain(|fact| strength(fact) > weakest);
-        }
+/// Lets the facts of the weakest kind go.
+pub(crate) fn drop_weakest(facts: &mut Vec<Fact>) {
+    if let Some(weakest) = facts.iter().map(strength).min() {
+        facts.retain(|fact| strength(fact) > weakest);
     }
 }
 

@@ -1,13 +1,15 @@
+use crate::places::{Places, taken};
+use crate::spots::Spot;
+use analyser_claims::row;
 use analyser_plan::{Course, Proposed};
 use analyser_tables::{Coming, Pace, Table};
 use cert_checker::walk::Walk;
 use certificate::Fact;
 use checker_calls::Bindings;
-use checker_loops::{BlockSection, Facts};
-use checker_trail::State;
-use memory::Refused;
+use checker_trail::{Mark, State};
 use std::alloc::{AllocError, Global};
 use std::mem;
+use typed_tree::Block;
 
 /// A walk over a program by what is known so far where facts stand, which moves with what comes there.
 #[derive(Drop)]
@@ -17,11 +19,7 @@ pub(crate) struct Analysis<'a> {
     pub(crate) course: &'a Course,
     /// The variables that each block declares, by its number.
     pub(crate) declared: &'a [Vec<u32>],
-    pub(crate) entries: Vec<Table>,
-    pub(crate) exits: Vec<Table>,
-    pub(crate) loops: Vec<Table>,
-    /// The facts at the heads of loops.
-    pub(crate) heads: Vec<Vec<Fact>>,
+    pub(crate) places: Places,
     /// Whether a block has to be walked, since something by which it goes moved.
     pub(crate) due: Vec<bool>,
     /// Whether it is being walked.
@@ -32,66 +30,59 @@ pub(crate) struct Analysis<'a> {
     pub(crate) narrows: bool,
     /// How many for statements it is in.
     pub(crate) depth: usize,
+    /// How many loops were begun so far.
+    pub(crate) begun: usize,
     /// States in which nothing is known but by types, for blocks that are walked from calls.
     pub(crate) spare: Vec<State<'a>>,
 }
 
 impl<'a> Analysis<'a> {
-    /// Before the first round, where no facts stand.
-    pub(crate) fn new(
-        alloc: Global,
-        walk: Walk<'a>,
-        course: &'a Course,
-        declared: &'a [Vec<u32>],
-    ) -> Analysis<'a> {
-        Analysis {
-            walk,
-            course,
-            declared,
-            entries: Vec::new(alloc),
-            exits: Vec::new(alloc),
-            loops: Vec::new(alloc),
-            heads: Vec::new(alloc),
-            due: Vec::new(alloc),
-            walked: Vec::new(alloc),
-            next: 0,
-            narrows: false,
-            depth: 0,
-            spare: Vec::new(alloc),
-        }
-    }
-
-    /// Facts stand from here on where blocks begin and end, and at the heads of loops.
+    /// Before the first round, where nothing came yet to the facts that are proposed.
     ///
     /// # Errors
     /// No memory.
-    pub(crate) fn keep(&mut self, alloc: Global, facts: Proposed) -> Result<(), AllocError> {
-        let sections = &mut self.walk.flow.grounds.sections;
-        self.due = vec![in alloc; false; sections.len()]?;
-        self.walked = vec![in alloc; false; sections.len()]?;
-        self.entries = tables(alloc, &facts.entries)?;
-        self.exits = tables(alloc, &facts.exits)?;
-        self.loops = tables(alloc, &facts.loops)?;
-        self.heads = facts.loops;
-        for (section, facts) in sections.iter_mut().zip(facts.entries.into_iter()) {
-            section.start = Facts::Kept(facts);
-        }
-        for (section, facts) in sections.iter_mut().zip(facts.exits.into_iter()) {
-            section.end = Facts::Kept(facts);
-        }
-        Ok(())
+    pub(crate) fn new(
+        alloc: Global,
+        mut walk: Walk<'a>,
+        course: &'a Course,
+        declared: &'a [Vec<u32>],
+        facts: Proposed,
+    ) -> Result<Analysis<'a>, AllocError> {
+        let rows = walk.flow.state.table();
+        let sections = &mut walk.flow.grounds.sections;
+        let blocks = sections.len();
+        let places = Places::new(alloc, rows, facts, sections)?;
+        Ok(Analysis {
+            walk,
+            course,
+            declared,
+            places,
+            due: vec![in alloc; false; blocks]?,
+            walked: vec![in alloc; false; blocks]?,
+            next: 0,
+            narrows: false,
+            depth: 0,
+            begun: 0,
+            spare: Vec::new(alloc),
+        })
     }
 
     /// The facts that stand, where nothing moves any longer.
+    ///
+    /// # Errors
+    /// No memory, perhaps before.
     pub(crate) fn take(&mut self, alloc: Global) -> Result<Proposed, AllocError> {
+        if let Some(refused) = self.state().refusal() {
+            return Err(refused.into());
+        }
         let rows = self.walk.flow.state.table();
-        for (table, facts) in self.loops.iter().zip(self.heads.iter_mut()) {
+        for (table, facts) in self.places.loops.iter().zip(self.places.heads.iter_mut()) {
             table.settle(facts, rows);
         }
         let mut facts = Proposed {
             entries: Vec::new(alloc),
             exits: Vec::new(alloc),
-            loops: mem::replace(&mut self.heads, Vec::new(alloc)),
+            loops: mem::replace(&mut self.places.heads, Vec::new(alloc)),
         };
         for section in self.walk.flow.grounds.sections.iter_mut() {
             facts.entries.push(taken(alloc, &mut section.start))?;
@@ -100,126 +91,88 @@ impl<'a> Analysis<'a> {
         Ok(facts)
     }
 
-    /// That memory ran out, where it did.
-    pub(crate) fn refusal(&self) -> Option<Refused> {
-        self.walk.flow.state.refusal()
-    }
-
-    /// A block has to be walked.
-    pub(crate) fn make_due(&mut self, number: usize) {
-        if let Some(due) = self.due.get_mut(number) {
-            *due = true;
-            self.next = self.next.min(number);
-        }
-    }
-
-    // Each block that calls one has to be walked.
-    pub(crate) fn make_callers_due(&mut self, number: usize) {
-        let course = self.course;
-        if let Some(callers) = course.callers.get(number) {
-            for caller in callers {
-                self.make_due(*caller as usize);
-            }
-        }
-    }
-}
-
-// What comes to places of facts.
-impl<'a> Analysis<'a> {
-    /// What is known where the walk is comes to the head of a loop, perhaps from the end of a turn. Whether that moved
-    /// what is known there.
-    pub(crate) fn arrive_at_loop(&mut self, number: u32, from_turn: bool) -> bool {
-        let pace = self.pace(from_turn);
-        let (Some(table), Some(facts)) = (
-            self.loops.get_mut(number as usize),
-            self.heads.get_mut(number as usize),
-        ) else {
-            return false;
-        };
-        table.arrive(facts, &Coming::here(&self.walk.flow.state), pace)
-    }
-
-    /// It comes to the end of a block.
-    pub(crate) fn arrive_at_exit(&mut self, number: usize) {
-        let counts = is_told(&self.course.is_recursive, number);
-        let pace = self.pace(counts);
-        let mut sections = self.sections_taken();
-        let has_moved = match (self.exits.get_mut(number), sections.get_mut(number)) {
-            (Some(table), Some(section)) => {
-                let coming = Coming::here(&self.walk.flow.state);
-                arrived(table, &mut section.end, &coming, pace)
-            }
-            _ => false,
-        };
-        self.walk.flow.grounds.sections = sections;
-        if has_moved {
-            self.make_callers_due(number);
-        }
-    }
-
-    /// It comes to where a routine begins that is called with these actual parameters.
-    pub(crate) fn arrive_at_entry(&mut self, number: usize, bindings: Bindings) {
-        let pace = self.pace(true);
-        let mut sections = self.sections_taken();
-        let has_moved = match (self.entries.get_mut(number), sections.get_mut(number)) {
-            (Some(table), Some(section)) => {
-                let coming = Coming::called(&self.walk.flow.state, bindings);
-                arrived(table, &mut section.start, &coming, pace)
-            }
-            _ => false,
-        };
-        self.walk.flow.grounds.sections = sections;
-        if has_moved {
-            self.make_due(number);
-        }
-    }
-
-    // The sections of the walk, which has none until they are put back.
-    fn sections_taken(&mut self) -> Vec<BlockSection<'a>> {
-        let none = Vec::new(self.walk.flow.state.alloc());
-        mem::replace(&mut self.walk.flow.grounds.sections, none)
-    }
-
-    // How what comes moves what is known.
-    fn pace(&self, counts: bool) -> Pace<'a, 'a> {
-        Pace {
-            rows: self.walk.flow.state.table(),
+    /// What is known where the walk is comes to a spot, from a call with its bindings if that is where a routine
+    /// begins. Whether that moved what is known there.
+    pub(crate) fn arrive(&mut self, spot: Spot, bindings: Option<Bindings>, counts: bool) -> bool {
+        let flow = &mut self.walk.flow;
+        let state = &flow.state;
+        let pace = Pace {
+            rows: state.table(),
             ladders: &self.course.ladders,
             narrows: self.narrows,
             counts,
+        };
+        match self.places.at(&mut flow.grounds.sections, spot) {
+            None => false,
+            Some((table, facts)) => arrived(table, facts, state, bindings, pace),
+        }
+    }
+
+    /// Where what is known at a spot moved, the blocks that go by it have to be walked.
+    pub(crate) fn follow(&mut self, spot: Spot, has_moved: bool) {
+        if !has_moved {
+            return;
+        }
+        let course = self.course;
+        match spot {
+            Spot::Entry(block) => self.make_due(block),
+            Spot::Exit(block) => {
+                for caller in row(&course.callers, block) {
+                    self.make_due(*caller);
+                }
+            }
+            Spot::Loop(number) => {
+                if let Some(one) = self.state().table().tree().loops.get(number as usize) {
+                    self.make_due(one.block);
+                }
+            }
+        }
+    }
+
+    // A block has to be walked.
+    fn make_due(&mut self, block: u32) {
+        if let Some(due) = self.due.get_mut(block as usize) {
+            *due = true;
+            self.next = self.next.min(block as usize);
         }
     }
 }
 
-// Something comes to where a block begins or ends. Whether anything moved.
-fn arrived(table: &mut Table, facts: &mut Facts, coming: &Coming, pace: Pace) -> bool {
-    match facts {
-        Facts::Kept(facts) => table.arrive(facts, coming, pace),
-        Facts::Listed(_) => false,
+// What is known where the walk is.
+impl<'a> Analysis<'a> {
+    /// Its state.
+    pub(crate) fn state(&self) -> &State<'a> {
+        &self.walk.flow.state
+    }
+
+    /// The block of a number.
+    pub(crate) fn block(&self, number: u32) -> Option<&'a Block> {
+        self.state().table().tree().blocks.get(number as usize)
+    }
+
+    /// Goes back to a mark.
+    pub(crate) fn go_back(&mut self, mark: Mark) {
+        let _way = self.walk.flow.state.leave(mark);
+    }
+
+    /// Goes on where no run comes, unless runs come.
+    pub(crate) fn die_unless(&mut self, runs_come: bool) {
+        if !runs_come {
+            self.walk.flow.state.die();
+        }
     }
 }
 
-// Facts of a block, which stand there no longer.
-fn taken(alloc: Global, facts: &mut Facts) -> Vec<Fact> {
-    match mem::replace(facts, Facts::Listed(&[])) {
-        Facts::Kept(facts) => facts,
-        Facts::Listed(_) => Vec::new(alloc),
+// A state comes to facts, perhaps from a call. Whether it moved any.
+fn arrived(
+    table: &mut Table,
+    facts: &mut Vec<Fact>,
+    state: &State,
+    bindings: Option<Bindings>,
+    pace: Pace,
+) -> bool {
+    match bindings {
+        None => table.arrive(facts, &Coming::here(state), pace),
+        Some(bindings) => table.arrive(facts, &Coming::called(state, bindings), pace),
     }
-}
-
-/// Whether it is told so of a number.
-pub(crate) fn is_told(told: &[bool], number: usize) -> bool {
-    match told.get(number) {
-        None => false,
-        Some(is_so) => *is_so,
-    }
-}
-
-// A table for each row of facts.
-fn tables(alloc: Global, rows: &[Vec<Fact>]) -> Result<Vec<Table>, AllocError> {
-    let mut tables = Vec::with_capacity(alloc, rows.len())?;
-    for row in rows {
-        tables.push(Table::new(alloc, row.len())?)?;
-    }
-    Ok(tables)
 }

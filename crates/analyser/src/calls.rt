@@ -1,10 +1,10 @@
 //! Calls: what is known comes to where the called block begins, which is walked at once where it is due.
 
-use crate::analysis::is_told;
+use crate::spots::Spot;
 use crate::{Analysis, Tally};
 use analyser_claims::Event;
 use cert_checker::blocks::begin;
-use checker_calls::{Actual, Bindings, settle};
+use checker_calls::{Bindings, settle};
 use checker_trail::{Mark, State};
 use std::alloc::AllocError;
 use std::mem;
@@ -35,27 +35,24 @@ impl<'a> Analysis<'a> {
         left: u32,
         visits: &mut Tally,
     ) -> bool {
+        let mark = self.state().mark();
         match events {
             Ok(events) => self.calls(&events, left, visits),
-            Err(error) => {
-                self.run_short(error.into());
-                true
-            }
+            Err(error) => self.walk.flow.state.run_short(error.into()),
         }
+        let come_back = !self.state().is_dead();
+        self.go_back(mark);
+        come_back
     }
 
     #[cycle(statement)]
-    fn calls(&mut self, events: &[Event], left: u32, visits: &mut Tally) -> bool {
-        let mark = self.mark();
+    fn calls(&mut self, events: &[Event], left: u32, visits: &mut Tally) {
         for event in events {
             if let Event::Call { call, actuals } = event {
                 self.enter(*call, actuals, left, visits);
                 self.leave_call(*call, actuals, visits);
             }
         }
-        let come_back = !self.state().is_dead();
-        self.go_back(mark);
-        come_back
     }
 
     // What is known comes to where a called block begins.
@@ -72,15 +69,21 @@ impl<'a> Analysis<'a> {
     fn come_to(&mut self, call: Call, actuals: &[Passed], visits: &mut Tally) -> bool {
         let mut passed = self.walk.flow.actuals(actuals, visits);
         settle(actuals_hold_call(actuals), &mut passed);
-        let bindings = bound(self.parameters(call), &passed);
-        self.arrive_at_entry(call.block as usize, bindings);
+        let roots = self.parameters(call);
+        let bindings = Bindings {
+            roots,
+            actuals: &passed,
+        };
+        let spot = Spot::Entry(call.block);
+        let has_moved = self.arrive(spot, Some(bindings), true);
+        self.follow(spot, has_moved);
         self.is_due(call.block as usize)
     }
 
     // Goes on behind a call. No run comes behind that of a block whose end isn't reached yet.
     fn leave_call(&mut self, call: Call, actuals: &[Passed], visits: &mut Tally) {
         self.walk.flow.call(call, actuals, visits);
-        if let Some(table) = self.exits.get(call.block as usize) {
+        if let Some(table) = self.places.exits.get(call.block as usize) {
             let is_reached = table.is_reached;
             self.die_unless(is_reached);
         }
@@ -112,7 +115,10 @@ impl<'a> Analysis<'a> {
     // What is known comes to the end of a block, and the walk goes on where it was before.
     fn end_visit(&mut self, number: u32, function: Option<FunctionResult>, caller: Caller<'a>) {
         self.walk.use_result(function);
-        self.arrive_at_exit(number as usize);
+        let spot = Spot::Exit(number);
+        let counts = matches!(self.course.is_recursive.get(number as usize), Some(true));
+        let has_moved = self.arrive(spot, None, counts);
+        self.follow(spot, has_moved);
         self.go_back(caller.mark);
         self.set_walked(number as usize, false);
         let flow = &mut self.walk.flow;
@@ -123,7 +129,7 @@ impl<'a> Analysis<'a> {
 
     // Whether a block has to be walked and isn't being walked.
     fn is_due(&self, number: usize) -> bool {
-        is_told(&self.due, number) && !is_told(&self.walked, number)
+        matches!(self.due.get(number), Some(true)) && matches!(self.walked.get(number), Some(false))
     }
 
     // A block is being walked from here on, and isn't due any longer; or the walk over it ended.
@@ -146,28 +152,19 @@ impl<'a> Analysis<'a> {
 
     // A state in which nothing is known but by types.
     fn spare_state(&mut self) -> State<'a> {
-        match self.spare.pop() {
-            Some(state) => state,
-            None => {
-                let state = self.state();
-                State::of_types(state.alloc(), state.rules(), state.table())
-            }
-        }
+        let spare = self.spare.pop();
+        let state = self.state();
+        spare.unwrap_or_else(|| State::of_types(state.alloc(), state.rules(), state.table()))
     }
 
     // A state that was walked in. What it lacks of memory, all lack.
     fn give_back(&mut self, state: State<'a>) {
         self.walk.flow.open_ids.clear();
         if let Some(refused) = state.refusal() {
-            return self.run_short(refused);
+            return self.walk.flow.state.run_short(refused);
         }
         if let Err(error) = self.spare.push(state) {
-            self.run_short(error.into());
+            self.walk.flow.state.run_short(error.into());
         }
     }
-}
-
-// Formal parameters with their actual ones.
-fn bound<'b, 'x>(roots: &'b [u32], actuals: &'b [Actual<'x>]) -> Bindings<'b, 'x> {
-    Bindings { roots, actuals }
 }

@@ -1,7 +1,7 @@
 //! Facts that others say as well.
 
 use certificate::Fact;
-use checker_loops::rows_named;
+use checker_loops::claims::{kept_bound, rows_named};
 use checker_rows::Rows;
 use domain::{Bound, Path, Span, Spans, Step};
 
@@ -18,24 +18,20 @@ pub(crate) fn drop_implied(rows: &Rows, facts: &mut Vec<Fact>) {
 }
 
 fn is_implied(rows: &Rows, facts: &[Fact], place: usize) -> bool {
-    let Some(fact) = facts.get(place) else {
+    let Some(Fact::Defined { path, spans }) = facts.get(place) else {
         return false;
     };
     let first = place.saturating_sub(NEAR);
     let last = place.saturating_add(NEAR);
-    (first..last).any(|at| at != place && facts.get(at).is_some_and(|one| says(rows, one, fact)))
+    (first..last).any(|at| at != place && says(rows, facts.get(at), path, *spans))
 }
 
-// Whether a fact says another one, which isn't the same.
-fn says(rows: &Rows, fact: &Fact, other: &Fact) -> bool {
-    match (fact, other) {
-        (
-            Fact::Defined { path, spans },
-            Fact::Defined {
-                path: part,
-                spans: others,
-            },
-        ) => { leads_to(path, part) && have(rows, path, *spans, *others) }
+// Whether there is a fact which says that what lies in spans of a part is defined.
+fn says(rows: &Rows, fact: Option<&Fact>, part: &Path, others: Spans) -> bool {
+    match fact {
+        Some(Fact::Defined { path, spans }) => {
+            leads_to(path, part) && have(rows, path, *spans, others)
+        }
         _ => false,
     }
 }
@@ -77,17 +73,8 @@ fn is_same(step: &Step, other: &Step) -> bool {
 
 // Whether the one bound is at most the other, whatever variables hold.
 fn is_at_most(bound: Bound, other: Bound) -> bool {
-    match (bound, other) {
-        (Bound::Number(number), Bound::Number(other)) => number <= other,
-        (
-            Bound::Plus { root, number },
-            Bound::Plus {
-                root: other_root,
-                number: other,
-            },
-        ) => root == other_root && number <= other,
-        _ => false,
-    }
+    let (bound, other) = (kept_bound(bound), kept_bound(other));
+    bound.root == other.root && bound.number <= other.number
 }
 
 // Whether all indexes of an array lie between two bounds.

@@ -13,12 +13,13 @@ mod calls;
 mod implied;
 mod loops;
 mod outcome;
+mod places;
 mod rounds;
+mod spots;
 mod statements;
 mod tally;
 pub mod trimming;
 mod verdicts;
-mod ways;
 
 pub use crate::accepting::Found;
 use crate::accepting::accepted;
@@ -104,17 +105,10 @@ fn given_facts(
     let claims = all_claims(alloc, tree, frame)?;
     let aliases = all_loop_aliases(alloc, tree, &grounds.pairs, &claims)?;
     // The checker takes no program of more variables than have numbers, whatever is found of it.
-    let declared = match all_declared(alloc, tree)? {
-        Some(declared) => declared,
-        None => Vec::new(alloc),
-    };
+    let declared = all_declared(alloc, tree)?.unwrap_or(Vec::new(alloc));
     let state = State::of_types(alloc, grounds.version, rows);
     let walk = Walk::new(state, grounds, &claims, &aliases);
-    let mut analysis = Analysis::new(alloc, walk, course, &declared);
-    analysis.keep(alloc, proposed)?;
+    let mut analysis = Analysis::new(alloc, walk, course, &declared, proposed)?;
     analysis.run(visits);
-    match analysis.refusal() {
-        Some(refused) => Err(refused.into()),
-        None => analysis.take(alloc),
-    }
+    analysis.take(alloc)
 }

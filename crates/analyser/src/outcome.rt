@@ -1,6 +1,7 @@
 //! The certificate that facts make which stand at the end.
 
 use crate::implied::drop_implied;
+use crate::spots::Revision;
 use analyser_plan::Proposed;
 use certificate::{Certificate, Fact, LoopClaims, Section};
 use checker_loops::rows_named;
@@ -10,15 +11,9 @@ use std::mem;
 
 /// Puts facts into a certificate without facts, in their order, without those that others say as well.
 pub(crate) fn filled(rows: &Rows, frame: Certificate, facts: Proposed) -> Certificate {
-    let Certificate {
-        version,
-        mut sections,
-    } = frame;
-    let mut facts = facts;
-    for section in sections.iter_mut() {
-        fill(rows, section, &mut facts);
-    }
-    Certificate { version, sections }
+    let mut certificate = frame;
+    Revision::Fill(rows, facts).make(&mut certificate);
+    certificate
 }
 
 /// Leaves out of a certificate what says nothing.
@@ -29,21 +24,8 @@ pub(crate) fn drop_vacant(certificate: &mut Certificate) {
     certificate.sections.retain(says_something);
 }
 
-fn fill(rows: &Rows, section: &mut Section, facts: &mut Proposed) {
-    let number = section.block as usize;
-    take(rows, &mut section.entry, facts.entries.get_mut(number));
-    take(rows, &mut section.exit, facts.exits.get_mut(number));
-    for claims in section.loops.iter_mut() {
-        take(
-            rows,
-            &mut claims.facts,
-            facts.loops.get_mut(claims.number as usize),
-        );
-    }
-}
-
-// Takes facts over, in their order.
-fn take(rows: &Rows, to: &mut Vec<Fact>, from: Option<&mut Vec<Fact>>) {
+/// Puts facts that were found into a list, in their order.
+pub(crate) fn put(rows: &Rows, to: &mut Vec<Fact>, from: Option<&mut Vec<Fact>>) {
     if let Some(facts) = from {
         mem::swap(to, facts);
         to.retain(|fact| !is_of_all(rows, fact));

@@ -1,9 +1,9 @@
 //! Rounds over the blocks of a program, until nothing moves any longer.
 
 use crate::calls::WALK;
+use crate::spots::Spot;
 use crate::{Analysis, Tally};
-use analyser_tables::Table;
-use checker_loops::Facts;
+use analyser_claims::number_of;
 use std::mem;
 
 // How many walks may stand in one another.
@@ -16,7 +16,7 @@ const MOST: usize = 200;
 impl<'a> Analysis<'a> {
     /// Goes over the program until what is known where facts stand is given wherever it has to be.
     pub(crate) fn run(&mut self, visits: &mut Tally) {
-        self.make_due(0);
+        self.follow(Spot::Entry(0), true);
         self.ascend(visits);
         self.reach_all();
         self.ascend(visits);
@@ -35,7 +35,7 @@ impl<'a> Analysis<'a> {
                 return;
             };
             self.next = number;
-            self.visit_alone(number, visits);
+            self.visit(number_of(number), DEEP * WALK, visits);
         }
     }
 
@@ -46,92 +46,45 @@ impl<'a> Analysis<'a> {
         Some(from + place)
     }
 
-    // Walks over a block from no call.
-    fn visit_alone(&mut self, number: usize, visits: &mut Tally) {
-        if let Ok(number) = u32::try_from(number) {
-            self.visit(number, DEEP * WALK, visits);
-        }
-    }
-
     // What no state came to counts as reached from here on, with the empty ranges that stand there.
     fn reach_all(&mut self) {
-        for number in 0..self.due.len() {
-            if reach(self.entries.get_mut(number)) {
-                self.make_due(number);
-            }
-            if reach(self.exits.get_mut(number)) {
-                self.make_callers_due(number);
-            }
+        for block in 0..number_of(self.due.len()) {
+            self.reach(Spot::Entry(block));
+            self.reach(Spot::Exit(block));
         }
     }
 
-    // Walks over each block once, and meets the ranges at each place with what comes there. Whether any moved.
+    // The same of a spot.
+    fn reach(&mut self, spot: Spot) {
+        let place = self.places.at(&mut self.walk.flow.grounds.sections, spot);
+        let is_new = place.is_some_and(|(table, _)| !mem::replace(&mut table.is_reached, true));
+        self.follow(spot, is_new);
+    }
+
+    // Walks over each block once, and meets the ranges at each spot with what comes there. Whether any moved.
     fn narrow(&mut self, visits: &mut Tally) -> bool {
+        let blocks = number_of(self.due.len());
         self.narrows = true;
-        for number in 0..self.due.len() {
-            self.visit_alone(number, visits);
+        for block in 0..blocks {
+            self.visit(block, DEEP * WALK, visits);
         }
         self.narrows = false;
         let mut has_moved = false;
-        for number in 0..self.due.len() {
-            if self.narrow_start(number) {
-                self.make_due(number);
-                has_moved = true;
-            }
-            if self.narrow_end(number) {
-                self.make_callers_due(number);
-                has_moved = true;
-            }
+        for block in 0..blocks {
+            has_moved |= self.meet(Spot::Entry(block));
+            has_moved |= self.meet(Spot::Exit(block));
         }
-        let tree = self.state().table().tree();
-        for (number, one) in tree.loops.iter().enumerate() {
-            if self.narrow_loop(number) {
-                self.make_due(one.block as usize);
-                has_moved = true;
-            }
+        for number in 0..number_of(self.places.loops.len()) {
+            has_moved |= self.meet(Spot::Loop(number));
         }
         has_moved
     }
 
-    // The same where a block begins.
-    fn narrow_start(&mut self, number: usize) -> bool {
-        let sections = &mut self.walk.flow.grounds.sections;
-        match (self.entries.get_mut(number), sections.get_mut(number)) {
-            (Some(table), Some(section)) => narrow_facts(table, &mut section.start),
-            _ => false,
-        }
-    }
-
-    // The same where it ends.
-    fn narrow_end(&mut self, number: usize) -> bool {
-        let sections = &mut self.walk.flow.grounds.sections;
-        match (self.exits.get_mut(number), sections.get_mut(number)) {
-            (Some(table), Some(section)) => narrow_facts(table, &mut section.end),
-            _ => false,
-        }
-    }
-
-    // The same at the head of a loop.
-    fn narrow_loop(&mut self, number: usize) -> bool {
-        match (self.loops.get_mut(number), self.heads.get_mut(number)) {
-            (Some(table), Some(facts)) => table.narrow(facts),
-            _ => false,
-        }
-    }
-}
-
-// Meets the ranges of facts of a block with what came there. Whether any moved.
-fn narrow_facts(table: &mut Table, facts: &mut Facts) -> bool {
-    match facts {
-        Facts::Kept(facts) => table.narrow(facts),
-        Facts::Listed(_) => false,
-    }
-}
-
-// A place counts as reached. Whether it didn't before.
-fn reach(table: Option<&mut Table>) -> bool {
-    match table {
-        None => false,
-        Some(table) => !mem::replace(&mut table.is_reached, true),
+    // Meets the ranges at a spot with what came there. Whether any moved.
+    fn meet(&mut self, spot: Spot) -> bool {
+        let place = self.places.at(&mut self.walk.flow.grounds.sections, spot);
+        let has_moved = place.is_some_and(|(table, facts)| table.narrow(facts));
+        self.follow(spot, has_moved);
+        has_moved
     }
 }

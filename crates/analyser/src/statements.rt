@@ -12,7 +12,7 @@ impl<'a> Analysis<'a> {
     #[cycle(statement)]
     pub(crate) fn statement(&mut self, statement: &Stmt, left: u32, visits: &mut Tally) {
         let Some(left) = left.checked_sub(1) else {
-            return self.die();
+            return self.walk.flow.state.die();
         };
         match statement {
             Stmt::Empty { number } => visits.tick(*number),
@@ -28,15 +28,15 @@ impl<'a> Analysis<'a> {
             } => {
                 visits.tick(*number);
                 let known = self.value(condition, left, visits);
-                let mark = self.mark();
-                self.go_where(condition, &known, true);
+                let mark = self.state().mark();
+                self.walk.go_where(condition, &known, true);
                 self.statement(consequence, left, visits);
-                let first = self.leave(mark);
-                self.go_where(condition, &known, false);
+                let first = self.walk.flow.state.leave(mark);
+                self.walk.go_where(condition, &known, false);
                 if let Some(other) = alternative {
                     self.statement(other, left, visits);
                 }
-                self.join_behind(mark, &first);
+                self.walk.flow.state.join_behind(mark, &first);
             }
             Stmt::While { .. } | Stmt::Repeat { .. } => self.turns(statement, &None, left, visits),
             Stmt::For { head, .. } => self.for_loop(statement, head, left, visits),
@@ -45,9 +45,7 @@ impl<'a> Analysis<'a> {
                 self.records(head, left, visits);
                 self.statement(body, left, visits);
             }
-            Stmt::Assign(_) | Stmt::Copy(_) | Stmt::Write(_) | Stmt::Read(_) | Stmt::Call(_) => {
-                self.simple(statement, left, visits)
-            }
+            _ => self.simple(statement, left, visits),
         }
     }
 
@@ -64,28 +62,18 @@ impl<'a> Analysis<'a> {
     fn case(&mut self, head: &CaseHead, arms: &[Stmt], left: u32, visits: &mut Tally) {
         visits.tick(head.number);
         let known = self.value(&head.index, left, visits);
-        let index = self.index_of(head, arms.len(), &known);
-        let mark = self.mark();
-        self.die();
-        let mut behind = self.leave(mark);
+        self.walk.test_index(head, arms.len(), known.range());
+        let index = entire(self.state().table(), &head.index);
+        let mark = self.state().mark();
+        self.walk.flow.state.die();
+        let mut behind = self.walk.flow.state.leave(mark);
         for number in 0..arms.len() {
-            self.begin_arm(head, index, number);
+            begin_arm(&mut self.walk.flow.state, index, &head.constants, number);
             self.statement(&arms[number], left, visits);
-            self.join_behind(mark, &behind);
-            behind = self.leave(mark);
+            self.walk.flow.state.join_behind(mark, &behind);
+            behind = self.walk.flow.state.leave(mark);
         }
-        self.go(&behind);
-    }
-
-    // Tests the index of a case with so many arms. The variable that it is, if it is one.
-    fn index_of(&mut self, head: &CaseHead, arms: usize, known: &Known) -> Option<u32> {
-        self.walk.test_index(head, arms, known.range());
-        entire(self.state().table(), &head.index)
-    }
-
-    // Goes on in an arm.
-    fn begin_arm(&mut self, head: &CaseHead, index: Option<u32>, number: usize) {
-        begin_arm(&mut self.walk.flow.state, index, &head.constants, number);
+        self.walk.flow.state.go(&behind);
     }
 
     // The records of a with.
@@ -105,7 +93,7 @@ impl<'a> Analysis<'a> {
     // A statement that holds no others.
     #[cycle(statement)]
     fn simple(&mut self, statement: &Stmt, left: u32, visits: &mut Tally) {
-        let alloc = self.alloc();
+        let alloc = self.state().alloc();
         let comes_back = !statement_holds_call(statement)
             || self.calls_among(events_of(alloc, statement), left, visits);
         self.walk.statement(statement, visits);
@@ -115,7 +103,7 @@ impl<'a> Analysis<'a> {
     /// What is known of the value of an expression.
     #[cycle(statement)]
     pub(crate) fn value(&mut self, expression: &Expr, left: u32, visits: &mut Tally) -> Known {
-        let alloc = self.alloc();
+        let alloc = self.state().alloc();
         let comes_back = !holds_call(expression)
             || self.calls_among(expression_events(alloc, expression), left, visits);
         let known = self.walk.expression(expression, visits);
@@ -142,9 +130,6 @@ fn parameter_holds_call(parameter: &WriteParameter) -> bool {
         Written::Ordinal { value, .. } => holds_call(value),
         Written::String { value, indexes } => whole_holds_call(value, indexes),
     };
-    value
-        || match &parameter.width {
-            None => false,
-            Some(width) => holds_call(&width.value),
-        }
+    let width = parameter.width.as_ref();
+    value || width.is_some_and(|width| holds_call(&width.value))
 }

@@ -5,12 +5,12 @@ ghost use Rattle.analyser.specs.Verdicts.{IsJudgedAs};
 
 use crate::accepting::{reread, strength};
 use crate::outcome::drop_vacant;
+use crate::spots::Revision;
 use crate::verdicts::is_same;
 use cert_checker::{Verdict, check};
 use certificate::{Certificate, Fact};
 use checker_expressions::CheckFault;
 use std::alloc::{AllocError, Global};
-use std::slice::Iter;
 use typed_tree::Tree;
 
 // How many entries of the program all checks together go over at most. Each fact may want a check, which goes over all
@@ -60,10 +60,9 @@ impl<'a> Trials<'a> {
     fn of(alloc: Global, certificate: &'a Certificate) -> Result<Trials<'a>, AllocError> {
         let mut facts = Vec::new(alloc);
         for section in &certificate.sections {
-            add(&mut facts, &section.entry)?;
-            add(&mut facts, &section.exit)?;
-            for claims in &section.loops {
-                add(&mut facts, &claims.facts)?;
+            let turns = section.loops.iter().flat_map(|claims| claims.facts.iter());
+            for fact in section.entry.iter().chain(section.exit.iter()).chain(turns) {
+                facts.push((facts.len(), fact))?;
             }
         }
         facts.sort_unstable_by(|(_, one), (_, other)| {
@@ -88,7 +87,8 @@ impl<'a> Trials<'a> {
         }
         let before = self.facts.len();
         let is_kept = &self.is_kept;
-        self.facts.retain(|(number, _)| is_kept.get(*number).copied().unwrap_or(false));
+        self.facts
+            .retain(|(number, _)| matches!(is_kept.get(*number), Some(true)));
         let left = self.facts.len();
         (0 < left && left < before).then_some((0, left))
     }
@@ -125,13 +125,6 @@ impl<'a> Trials<'a> {
     }
 }
 
-fn add<'a>(all: &mut Vec<(usize, &'a Fact)>, facts: &'a [Fact]) -> Result<(), AllocError> {
-    for fact in facts {
-        all.push((all.len(), fact))?;
-    }
-    Ok(())
-}
-
 // Whether facts say the same of the same, in other numbers or spans maybe.
 fn are_alike(fact: &Fact, other: &Fact) -> bool {
     match (fact, other) {
@@ -155,7 +148,7 @@ fn reduced(
     let Some(mut less) = reread(alloc, certificate)? else {
         return Ok(None);
     };
-    leave_out(&mut less, is_kept);
+    Revision::Sift(is_kept.iter()).make(&mut less);
     drop_vacant(&mut less);
     let Some(less) = reread(alloc, &less)? else {
         return Ok(None);
@@ -165,19 +158,4 @@ fn reduced(
         Err(CheckFault::Memory(refused)) => Err(refused.into()),
         _ => Ok(None),
     }
-}
-
-fn leave_out(certificate: &mut Certificate, is_kept: &[bool]) {
-    let mut is_kept = is_kept.iter();
-    for section in certificate.sections.iter_mut() {
-        sift(&mut section.entry, &mut is_kept);
-        sift(&mut section.exit, &mut is_kept);
-        for claims in section.loops.iter_mut() {
-            sift(&mut claims.facts, &mut is_kept);
-        }
-    }
-}
-
-fn sift(facts: &mut Vec<Fact>, is_kept: &mut Iter<'_, bool>) {
-    facts.retain(|_| matches!(is_kept.next(), Some(true)));
 }

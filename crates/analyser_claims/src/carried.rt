@@ -10,26 +10,27 @@ use typed_tree::Passed;
 /// How often claims are carried to callers at most, and then to what they call.
 const ROUNDS: u32 = 8;
 
-/// Another name, mostly in another block.
+/// What has another name, mostly in another block.
 #[derive(Clone, Copy)]
-enum Name {
-    /// That of a value.
-    Value(End, End),
-    /// That of a variable with so many rows under it, which is passed; by the first of these, as arrays are.
-    Variable(Array, Array, usize),
+enum Named {
+    Value(End),
+    /// A variable with so many rows under it, which is passed; by the first of these, as arrays are.
+    Variable(Array, usize),
 }
+
+/// What is named in one block, and the same in another.
+type Name = (Named, Named);
 
 impl<'p, 't> Program<'p, 't> {
     /// What may hold in each block, by the variables that it names, as the outward variables are that each mentions; it
     /// ascends.
     pub fn all_claims(&self, mentions: &[Vec<u32>]) -> Vec<Vec<(u32, Claim)>> {
         let memory = &self.memory;
-        let mut claims = memory.none();
-        for block in 0..self.events.len() {
-            memory.push(&mut claims, self.claims_in(number_of(block)));
-        }
+        let blocks = 0..number_of(self.events.len());
+        let claims = blocks.map(|block| self.claims_in(block));
+        let mut claims = memory.list(claims.collect(memory.alloc));
         // How many there were that each block could carry, when it last did.
-        let mut carried = memory.list(Vec::from_elem(memory.alloc, 0, claims.len()));
+        let mut carried = memory.filled(0, claims.len());
         // What is told of copies comes last, so that it pushes out nothing else; then it is carried too.
         for _ in 0..2 {
             self.carry_all(&mut claims, mentions, &mut carried);
@@ -37,11 +38,8 @@ impl<'p, 't> Program<'p, 't> {
                 self.add_copies(number_of(block), claims);
             }
         }
-        let mut named = memory.none();
-        for claims in &claims {
-            memory.push(&mut named, by_name(memory, claims));
-        }
-        named
+        let named = claims.iter().map(|claims| by_name(memory, claims));
+        memory.list(named.collect(memory.alloc))
     }
 
     // Carries claims over all calls, back and forth, until there are no more or it was done often.
@@ -72,14 +70,12 @@ impl<'p, 't> Program<'p, 't> {
     // How many claims its calls may carry to a block and from there.
     fn count(&self, claims: &[Vec<Claim>], caller: u32) -> usize {
         let own = row(claims, caller).len();
-        let mut count = 0usize;
-        for event in row(&self.events, caller) {
-            if let Event::Call { call, .. } = event {
-                let others = row(claims, call.block).len();
-                count = count.saturating_add(own).saturating_add(others);
-            }
-        }
-        count
+        let calls = self.calls(caller).iter();
+        calls.fold(0usize, |count, (called, _)| {
+            count
+                .saturating_add(own)
+                .saturating_add(row(claims, *called).len())
+        })
     }
 
     // Adds what is claimed of a variable also of those that get its value, and back.
@@ -109,12 +105,10 @@ impl<'p, 't> Program<'p, 't> {
 
     // Adds claims that name a variable also of a value by its side.
     fn add_named(&self, root: u32, to: End, named: &[(u32, Claim)], copied: &mut Vec<Claim>) {
-        let name = Name::Value(End::variable(root), to);
-        for claim in naming(&self.memory, named, &[root]) {
-            if let Some(claim) = renamed(&[name], claim) {
-                self.memory.push(copied, claim);
-            }
-        }
+        let name = (Named::Value(End::variable(root)), Named::Value(to));
+        let claims = naming(&self.memory, named, &[root]);
+        let claims = claims.iter().filter_map(|claim| renamed(&[name], *claim));
+        self.memory.put(copied.extend(claims));
     }
 
     // Carries claims of the blocks that a block calls to it, and its own to them, where they mention what these are of.
@@ -122,28 +116,23 @@ impl<'p, 't> Program<'p, 't> {
         let memory = &self.memory;
         let named = by_name(memory, row(claims, caller));
         let mut up = memory.none();
-        for event in row(&self.events, caller) {
-            let Event::Call { call, actuals } = event else {
-                continue;
-            };
-            let names = self.names(call.block, actuals);
-            self.add_carried(caller, row(claims, call.block), &names, &mut up);
+        for (called, actuals) in self.calls(caller) {
+            let names = self.names(*called, actuals);
+            self.add_carried(caller, row(claims, *called), &names, &mut up);
             self.add_to(claims, caller, &mut up, MANY);
             if named.is_empty() {
                 continue;
             }
-            let names = names.iter().map(|name| name.back());
+            let names = names.iter().map(|(from, to)| (*to, *from));
             let names = memory.list(names.collect(memory.alloc));
-            let mentions = row(all, call.block);
-            let mut roots = memory.list(Vec::from_slice(memory.alloc, mentions));
-            for root in names.iter().filter_map(|name| name.root()) {
-                memory.push(&mut roots, root);
-            }
+            let mentions = row(all, *called);
+            let mut roots = memory.copy(mentions);
+            memory.put(roots.extend(names.iter().filter_map(|(from, _)| from.root())));
             let own = naming(memory, &named, &roots);
             let mut down = memory.none();
-            self.add_carried(call.block, &own, &names, &mut down);
+            self.add_carried(*called, &own, &names, &mut down);
             down.retain(|claim| claim.is_of_any(mentions));
-            self.add_to(claims, call.block, &mut down, 0);
+            self.add_to(claims, *called, &mut down, 0);
         }
         self.add_to(claims, caller, &mut up, 0);
     }
@@ -179,60 +168,44 @@ impl<'p, 't> Program<'p, 't> {
 
     // What the formal parameters of a call are called in the calling block.
     fn names(&self, block: u32, actuals: &[Passed]) -> Vec<Name> {
-        let mut names = self.memory.none();
-        for (formal, actual) in self.parameters(block).iter().zip(actuals.iter()) {
-            if let Some(name) = self.name(*formal, actual) {
-                self.memory.push(&mut names, name);
-            }
-        }
-        names
+        let passed = self.parameters(block).iter().zip(actuals.iter());
+        let names = passed.filter_map(|(formal, actual)| self.name(*formal, actual));
+        self.memory.list(names.collect(self.memory.alloc))
     }
 
     // What a formal parameter is in the calling block: a value, or a variable or part of one to which no index leads.
     fn name(&self, formal: u32, actual: &Passed) -> Option<Name> {
-        let one = End::variable(formal);
+        let one = Named::Value(End::variable(formal));
         match actual {
-            Passed::Value { value, .. } => Some(Name::Value(one, End::of(self.rows, value)?)),
+            Passed::Value { value, .. } => Some((one, Named::Value(End::of(self.rows, value)?))),
             Passed::Whole { .. } => None,
             Passed::Reference { access, .. } if self.rows.is_structured_variable(formal) => {
                 let rows = self.rows.of_variable(formal);
-                let whole = Array {
-                    row: rows.first,
-                    ..Array::of(formal)
-                };
-                let actual = array_accessed(self.rows, access, 0)?;
-                Some(Name::Variable(whole, actual, rows.count))
+                let row = rows.first;
+                let from = Named::Variable(
+                    Array {
+                        row,
+                        ..Array::of(formal)
+                    },
+                    rows.count,
+                );
+                let (actual, indexes) = array_accessed(self.rows, access)?;
+                (indexes == 0).then_some((from, Named::Variable(actual, rows.count)))
             }
             Passed::Reference { access, .. } => {
-                Some(Name::Value(one, End::variable(entire(access)?)))
+                Some((one, Named::Value(End::variable(entire(access)?))))
             }
         }
     }
 }
 
-impl Name {
-    // The variable that gets the other one, if it is one.
+impl Named {
+    // The variable that it is of, if it is one.
     fn root(&self) -> Option<u32> {
         match self {
-            Name::Value(from, _) => from.root,
-            Name::Variable(from, _, _) => Some(from.root),
+            Named::Value(end) => end.root,
+            Named::Variable(array, _) => Some(array.root),
         }
-    }
-
-    // What is called so, by this name.
-    fn back(&self) -> Name {
-        match self {
-            Name::Value(from, to) => Name::Value(*to, *from),
-            Name::Variable(from, to, rows) => Name::Variable(*to, *from, *rows),
-        }
-    }
-}
-
-fn line_renamed(names: &[Name], line: Line) -> Line {
-    match line {
-        Line::All => Line::All,
-        Line::Row(end) => Line::Row(end_renamed(names, end)),
-        Line::Column(end) => Line::Column(end_renamed(names, end)),
     }
 }
 
@@ -241,7 +214,10 @@ fn renamed(names: &[Name], claim: Claim) -> Option<Claim> {
     match claim {
         Claim::Defined(array, line, first, last) => {
             let array = array_renamed(names, array);
-            let line = line_renamed(names, line);
+            let line = Line {
+                at: line.at.map(|end| end_renamed(names, end)),
+                ..line
+            };
             Some(Claim::Defined(array, line, renamed(first), renamed(last)))
         }
         Claim::Order(root, other, least) => {
@@ -257,7 +233,7 @@ fn renamed(names: &[Name], claim: Claim) -> Option<Claim> {
 
 fn array_renamed(names: &[Name], array: Array) -> Array {
     for name in names {
-        if let Name::Variable(from, to, rows) = name
+        if let (Named::Variable(from, rows), Named::Variable(to, _)) = name
             && from.root == array.root
             && let Some(by) = array.row.checked_sub(from.row)
             && by < *rows
@@ -274,7 +250,7 @@ fn array_renamed(names: &[Name], array: Array) -> Array {
 
 fn end_renamed(names: &[Name], end: End) -> End {
     for name in names {
-        if let Name::Value(from, to) = name
+        if let (Named::Value(from), Named::Value(to)) = name
             && from.root == end.root
         {
             let by = end.number.saturating_sub(from.number);

@@ -31,10 +31,8 @@ impl End {
     /// The bound that an expression is, if it is one.
     pub(crate) fn of(rows: &Rows, expression: &Expr) -> Option<End> {
         let bound = bound_form(Version::Three, rows, expression)?;
-        Some(End {
-            root: bound.root,
-            number: i64::from(bound.number),
-        })
+        let (root, number) = (bound.root, i64::from(bound.number));
+        Some(End { root, number })
     }
 
     pub(crate) fn constant(number: i64) -> End {
@@ -49,10 +47,8 @@ impl End {
     }
 
     pub(crate) fn moved(self, by: i64) -> End {
-        End {
-            root: self.root,
-            number: self.number.saturating_add(by),
-        }
+        let number = self.number.saturating_add(by);
+        End { number, ..self }
     }
 
     // As certificates tell it, if its number is one that they have.
@@ -68,19 +64,24 @@ impl End {
 /// Which elements of an array: all by their first index, or those of a matrix in one row by the second, or those in one
 /// column by the first.
 #[derive(Clone, Copy, PartialEq, Eq, PartialOrd, Ord)]
-pub enum Line {
+pub enum Way {
     All,
-    Row(End),
-    Column(End),
+    Row,
+    Column,
+}
+
+/// Elements that lie so, in which row or column, if it is one.
+#[derive(Clone, Copy, PartialEq, Eq, PartialOrd, Ord)]
+pub struct Line {
+    pub(crate) way: Way,
+    pub(crate) at: Option<End>,
 }
 
 impl Line {
-    fn end(self) -> Option<End> {
-        match self {
-            Line::All => None,
-            Line::Row(end) | Line::Column(end) => Some(end),
-        }
-    }
+    pub(crate) const ALL: Line = Line {
+        way: Way::All,
+        at: None,
+    };
 }
 
 /// What may hold of variables.
@@ -97,7 +98,7 @@ impl Claim {
     pub fn roots(&self) -> [Option<u32>; 4] {
         match self {
             Claim::Defined(array, line, first, last) => {
-                let other = line.end().and_then(|end| end.root);
+                let other = line.at.and_then(|end| end.root);
                 [Some(array.root), first.root, last.root, other]
             }
             Claim::Order(root, other, _) => [Some(*root), Some(*other), None, None],
@@ -106,11 +107,10 @@ impl Claim {
 
     /// Whether it is of one of some variables, which ascend: of an array of theirs, or their order.
     pub fn is_of_any(&self, roots: &[u32]) -> bool {
+        let has = |root| roots.binary_search(root).is_ok();
         match self {
-            Claim::Defined(array, ..) => roots.binary_search(&array.root).is_ok(),
-            Claim::Order(root, other, _) => {
-                roots.binary_search(root).is_ok() || roots.binary_search(other).is_ok()
-            }
+            Claim::Defined(array, ..) => has(&array.root),
+            Claim::Order(root, other, _) => has(root) || has(other),
         }
     }
 
@@ -123,10 +123,10 @@ impl Claim {
                 let mut parts = program.parts(array.root).iter().rev();
                 let part = parts.find(|part| part.is_array(types, *array))?;
                 let span = said_span(*first, *last)?;
-                let spans = match line {
-                    Line::All => Spans::One(span),
-                    Line::Row(row) => Spans::Two(said_span(*row, *row)?, span),
-                    Line::Column(column) => Spans::Two(span, said_span(*column, *column)?),
+                let spans = match (line.way, line.at) {
+                    (Way::Row, Some(row)) => Spans::Two(said_span(row, row)?, span),
+                    (Way::Column, Some(column)) => Spans::Two(span, said_span(column, column)?),
+                    _ => Spans::One(span),
                 };
                 let path = part.path(&program.memory);
                 Some(Fact::Defined { path, spans })
@@ -140,12 +140,10 @@ impl Claim {
     }
 
     // Of what it is, of columns of a matrix last: claims ascend by that.
-    fn subject(&self) -> (bool, Array, u8) {
+    fn subject(&self) -> (bool, Array, Way) {
         match self {
-            Claim::Defined(array, Line::All, ..) => (false, *array, 0),
-            Claim::Defined(array, Line::Row(_), ..) => (false, *array, 1),
-            Claim::Defined(array, Line::Column(_), ..) => (false, *array, 2),
-            Claim::Order(root, ..) => (true, Array::of(*root), 0),
+            Claim::Defined(array, line, ..) => (false, *array, line.way),
+            Claim::Order(root, ..) => (true, Array::of(*root), Way::All),
         }
     }
 
@@ -196,9 +194,7 @@ pub(crate) fn add_all(
         }
     }
     if !added.is_empty() {
-        for claim in added {
-            memory.push(claims, claim);
-        }
+        memory.put(claims.append(&mut added));
         claims.sort_unstable();
         claims.dedup_by(|next, one| one.is_twin(next));
     }
@@ -222,20 +218,15 @@ pub fn naming(memory: &Memory, named: &[(u32, Claim)], roots: &[u32]) -> Vec<Cla
     let mut claims = memory.none();
     for root in roots {
         let first = named.partition_point(|(other, _)| *other < *root);
-        for (other, claim) in named.get(first..).unwrap_or(&[]).iter().take(MOST_NAMING) {
-            if other != root {
-                break;
-            }
-            memory.push(&mut claims, *claim);
-        }
+        let behind = named.get(first..).unwrap_or(&[]).iter().take(MOST_NAMING);
+        let theirs = behind.take_while(|(other, _)| *other == *root);
+        memory.put(claims.extend(theirs.map(|(_, claim)| *claim)));
     }
     claims
 }
 
 // A span as certificates tell it, if they have its numbers.
 fn said_span(first: End, last: End) -> Option<facts::Span> {
-    Some(facts::Span {
-        first: first.said()?,
-        last: last.said()?,
-    })
+    let (first, last) = (first.said()?, last.said()?);
+    Some(facts::Span { first, last })
 }

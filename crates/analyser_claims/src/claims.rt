@@ -1,7 +1,7 @@
 //! What may hold of the variables of a block, by what stands in it.
 
-use crate::claim::{End, Line, MANY, add_all};
-use crate::{Array, Claim, Event, Memory, Program, array_accessed, part_accessed, row};
+use crate::claim::{End, Line, MANY, Way, add_all};
+use crate::{Array, Claim, Event, Memory, Program, array_accessed, row};
 use checker_rows::{Rows, limits};
 use domain::Interval;
 use typed_tree::{Access, Base, Direction, Dyadic, Expr, ForHead};
@@ -78,9 +78,9 @@ impl Store {
 
     // The values of the index.
     fn values(&self, rows: &Rows) -> Option<Interval> {
-        let index = match self.line {
-            Line::Row(_) => rows.inner(self.array.row),
-            Line::All | Line::Column(_) => rows.index(self.array.row),
+        let index = match self.line.way {
+            Way::Row => rows.inner(self.array.row),
+            Way::All | Way::Column => rows.index(self.array.row),
         };
         Some(limits(index?))
     }
@@ -166,8 +166,7 @@ impl<'p, 't> Program<'p, 't> {
                 && other != root
             {
                 let back = Claim::Order(other, root, number.saturating_neg());
-                memory.push(&mut found, Claim::Order(root, other, number));
-                memory.push(&mut found, back);
+                memory.put(found.extend([Claim::Order(root, other, number), back]));
             }
         }
         for run in deeds.at_constants.chunk_by(|one, next| {
@@ -177,7 +176,7 @@ impl<'p, 't> Program<'p, 't> {
                 && let Some((_, last)) = run.last()
             {
                 let (first, last) = (End::constant(*first), End::constant(*last));
-                memory.push(&mut found, Claim::Defined(*array, Line::All, first, last));
+                memory.push(&mut found, Claim::Defined(*array, Line::ALL, first, last));
             }
         }
         add_all(memory, &mut claims, &mut found, 0);
@@ -219,12 +218,13 @@ impl<'p, 't> Program<'p, 't> {
                 deeds.enter(&self.memory, *head);
             }
             Event::Leave => deeds.leave(),
-            Event::Chain {
-                first,
-                rest: [link],
-            } if matches!(link.operation, Dyadic::Relation(_)) => {
-                self.see_met(first, &link.operand, deeds);
-                self.see_met(&link.operand, first, deeds);
+            Event::Evaluate(Expr::Chain { first, rest }) => {
+                if let [link] = rest.as_slice()
+                    && let Dyadic::Relation(_) = link.operation
+                {
+                    self.see_met(first, &link.operand, deeds);
+                    self.see_met(&link.operand, first, deeds);
+                }
             }
             _ => {}
         }
@@ -261,26 +261,18 @@ impl<'p, 't> Program<'p, 't> {
 
     // An element gets a value perhaps, or a part of it.
     fn see_store(&self, access: &Access, indexes: &[Expr], deeds: &mut Deeds) {
-        if let Some(array) = part_accessed(self.rows, access)
-            && let Some(index) = indexes.last()
-        {
-            self.see_index(array, Line::All, index, deeds);
-        }
-        if let Some(array) = array_accessed(self.rows, access, 1)
-            && let Some(index) = indexes.last()
-        {
-            self.see_index(array, Line::All, index, deeds);
-        }
-        if let Some(array) = array_accessed(self.rows, access, 2)
-            && let [.., row, index] = indexes
-        {
-            self.see_index(array, Line::All, row, deeds);
-            if let Some(end) = End::of(self.rows, row) {
-                self.see_index(array, Line::Row(end), index, deeds);
+        match (array_accessed(self.rows, access), indexes) {
+            (Some((array, 1)), [.., index]) => self.see_index(array, Line::ALL, index, deeds),
+            (Some((array, 2)), [.., row, index]) => {
+                self.see_index(array, Line::ALL, row, deeds);
+                for (way, at, index) in [(Way::Row, row, index), (Way::Column, index, row)] {
+                    let at = End::of(self.rows, at);
+                    if at.is_some() {
+                        self.see_index(array, Line { way, at }, index, deeds);
+                    }
+                }
             }
-            if let Some(end) = End::of(self.rows, index) {
-                self.see_index(array, Line::Column(end), row, deeds);
-            }
+            _ => {}
         }
     }
 
@@ -299,7 +291,7 @@ impl<'p, 't> Program<'p, 't> {
                 inside: deeds.inside,
             };
             self.memory.push(&mut deeds.stores, store);
-        } else if line == Line::All {
+        } else if line == Line::ALL {
             self.memory.push(&mut deeds.at_constants, (array, by));
         }
     }
@@ -312,40 +304,35 @@ impl<'p, 't> Program<'p, 't> {
         };
         let turns = deeds.turns(store);
         for (step, outermost) in [(1, values.first()), (-1, values.last())] {
-            let Some((mut begins, ends)) = self.ways(store, step, &turns, deeds) else {
+            let Some((mut begins, mut ends)) = self.ways(store, step, &turns, deeds) else {
                 continue;
             };
             begins.retain(|begin| {
                 begin.root.is_some() || values.has(begin.number.saturating_add(store.by))
             });
+            let index = End::variable(store.root);
+            let indexes = [index, index.moved(step.saturating_neg())];
+            self.memory.put(ends.extend(indexes));
             for begin in &begins {
-                for end in &ends {
-                    self.memory.push(found, store.stretch(step, *begin, *end));
-                }
+                let stretches = ends.iter().map(|end| store.stretch(step, *begin, *end));
+                self.memory.put(found.extend(stretches));
             }
             let outermost = End::constant(outermost.saturating_sub(store.by));
-            let index = End::variable(store.root);
-            for begin in begins.iter().chain(&[outermost]) {
-                for end in [index, index.moved(step.saturating_neg())] {
-                    self.memory.push(found, store.stretch(step, *begin, end));
-                }
-            }
+            let stretches = indexes.map(|end| store.stretch(step, outermost, end));
+            self.memory.put(found.extend(stretches));
         }
     }
 
     // From where the variable of a store goes, and up to where, if it goes by such steps. One that isn't stepped may go
     // up from where it is set, and down.
     fn ways(&self, store: &Store, step: i64, turns: &Turns, deeds: &Deeds) -> Option<Ways> {
-        let (mut begins, mut ends) = (self.memory.none(), self.memory.none());
+        let memory = &self.memory;
+        let (mut begins, mut ends) = (memory.none(), memory.none());
         if let Some(head) = turns.head
             && head.control == store.root
         {
-            if let Some(first) = End::of(self.rows, &head.first.value) {
-                self.memory.push(&mut begins, first);
-            }
-            if let Some(last) = End::of(self.rows, &head.last.value) {
-                self.memory.push(&mut ends, last);
-            }
+            memory.put(begins.extend(End::of(self.rows, &head.first.value)));
+            memory.put(ends.extend(End::of(self.rows, &head.last.value)));
             let goes = matches!(head.direction, Direction::To) == (step > 0);
             return goes.then_some((begins, ends));
         }
@@ -359,16 +346,15 @@ impl<'p, 't> Program<'p, 't> {
         let is_free = step > 0 && steps.is_empty();
         for deed in deeds.among(store.root, Kind::Begins, turns, BEFORE) {
             if is_free || steps.iter().any(|one| store.place < one.key.2) {
-                self.memory.push(&mut begins, deed.end);
+                memory.push(&mut begins, deed.end);
             }
             if is_free || steps.iter().any(|one| one.key.2 < store.place) {
-                self.memory.push(&mut begins, deed.end.moved(step));
+                memory.push(&mut begins, deed.end.moved(step));
             }
         }
         for deed in deeds.among(store.root, Kind::Meets, turns, 0) {
-            for end in [deed.end, deed.end.moved(step.saturating_neg())] {
-                self.memory.push(&mut ends, end);
-            }
+            let before = deed.end.moved(step.saturating_neg());
+            memory.put(ends.extend([deed.end, before]));
         }
         (!steps.is_empty() || others.is_empty()).then_some((begins, ends))
     }

@@ -4,8 +4,8 @@ use crate::Memory;
 use place::Place;
 use std::alloc::{AllocError, Global};
 use typed_tree::{
-    Access, Assignment, Call, CaseHead, Copying, Expr, ForHead, Link, Passed, ReadVariable, Stmt,
-    Whole, Width, WriteParameter, Written,
+    Access, Assignment, Call, CaseHead, Copying, Expr, ForHead, Passed, ReadVariable, Stmt, Whole,
+    Width, WriteParameter, Written,
 };
 
 /// Something that happens, behind what its parts do.
@@ -16,14 +16,13 @@ pub enum Event<'t> {
         access: &'t Access,
         indexes: &'t [Expr],
     },
-    /// Operators are applied from left to right (6.7.2).
-    Chain {
-        first: &'t Expr,
-        rest: &'t [Link],
-    },
+    /// An expression that isn't a constant has its value (6.7).
+    Evaluate(&'t Expr),
     Assign(&'t Assignment),
     Copy(&'t Copying),
     Read(&'t ReadVariable),
+    /// A value has to be written in so many columns (6.9.3.1).
+    Widen(&'t Width),
     Call {
         call: Call,
         actuals: &'t [Passed],
@@ -174,8 +173,9 @@ impl<'t> Events<'t> {
                 Written::Ordinal { value, .. } => self.expression(value),
                 Written::String { value, indexes } => self.whole(value, indexes),
             }
-            if let Some(Width { value, .. }) = &parameter.width {
-                self.expression(value);
+            if let Some(width) = &parameter.width {
+                self.expression(&width.value);
+                self.push(Event::Widen(width));
             }
         }
     }
@@ -193,7 +193,8 @@ impl<'t> Events<'t> {
     #[cycle(expression)]
     fn expression(&mut self, expression: &'t Expr) {
         match expression {
-            Expr::Constant { .. } | Expr::Input { .. } => {}
+            Expr::Constant { .. } => return,
+            Expr::Input { .. } => {}
             Expr::Variable {
                 access,
                 indexes,
@@ -206,7 +207,6 @@ impl<'t> Events<'t> {
                 for link in rest {
                     self.expression(&link.operand);
                 }
-                self.push(Event::Chain { first, rest });
             }
             Expr::Compare {
                 left,
@@ -220,6 +220,7 @@ impl<'t> Events<'t> {
             }
             Expr::Call { call, actuals } => self.call(*call, actuals),
         }
+        self.push(Event::Evaluate(expression));
     }
 
     #[cycle(expression)]

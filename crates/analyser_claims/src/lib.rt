@@ -14,5 +14,5 @@ pub use claim::{Claim, naming};
 pub use events::{Event, events_of, expression_events};
 pub use lists::{Memory, number_of, row, settle};
 pub use parts::Part;
-pub(crate) use parts::{Array, all_parts, array_accessed, part_accessed};
+pub(crate) use parts::{Array, all_parts, array_accessed};
 pub use program::Program;

@@ -23,17 +23,30 @@ impl Memory {
 
     /// So many empty lists.
     pub fn rows<T: Drop>(&self, count: usize) -> Vec<Vec<T>> {
-        let mut rows = self.none();
-        for _ in 0..count {
-            self.push(&mut rows, self.none());
-        }
-        rows
+        self.list((0..count).map(|_| self.none()).collect(self.alloc))
+    }
+
+    /// So many of an item.
+    pub fn filled<T: Copy>(&self, item: T, count: usize) -> Vec<T> {
+        self.list(Vec::from_elem(self.alloc, item, count))
+    }
+
+    /// A list of these items.
+    pub fn copy<T: Copy>(&self, items: &[T]) -> Vec<T> {
+        self.list(Vec::from_slice(self.alloc, items))
     }
 
     /// Puts an item behind a list.
     pub fn push<T: Drop>(&self, list: &mut Vec<T>, item: T) {
         if let Err(error) = list.push(item) {
             self.refused.set(Some(error.into()));
+        }
+    }
+
+    /// Something was put behind a list, if there was memory for it.
+    pub fn put(&self, made: Result<(), AllocError>) {
+        if let Err(error) = made {
+            self.refused.set(Some(error));
         }
     }
 

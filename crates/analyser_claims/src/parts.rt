@@ -37,46 +37,25 @@ impl Array {
 }
 
 impl Part {
-    // What a path leads to, if that is there.
-    fn at(rows: &Rows, path: Path) -> Option<Part> {
-        let named = rows.named(&path)?;
-        Some(Part {
-            path,
-            type_id: named.type_id,
-            first: named.rows.first,
-        })
-    }
-
     /// The way to it.
     pub fn path(&self, memory: &Memory) -> Path {
-        let mut steps = memory.none();
-        for step in &self.path.steps {
-            let step = match step {
-                Step::Element => Step::Element,
-                Step::Field { name } => field_step(memory, name),
-            };
-            memory.push(&mut steps, step);
-        }
+        let steps = self.path.steps.iter().map(|step| step_copied(memory, step));
         Path {
             root: self.path.root,
-            steps,
+            steps: memory.list(steps.collect(memory.alloc)),
         }
     }
 
     /// Whether no step leads to elements.
     pub fn is_direct(&self) -> bool {
-        let mut steps = self.path.steps.iter();
-        !steps.any(|step| matches!(step, Step::Element))
+        self.elements() == 0
     }
 
     /// Whether it is an array, or it or something that it lies in is this part of the elements of one.
     pub(crate) fn is_array(&self, types: &TypeTable, array: Array) -> bool {
         self.first == array.row
-            && if array.is_part {
-                self.elements() == 1
-            } else {
-                self.is_direct() && types.element(self.type_id).is_some()
-            }
+            && self.elements() == usize::from(array.is_part)
+            && (array.is_part || types.element(self.type_id).is_some())
     }
 
     // How many steps lead to elements.
@@ -85,25 +64,37 @@ impl Part {
         steps.filter(|step| matches!(step, Step::Element)).count()
     }
 
-    // The steps to its elements or its fields.
-    fn steps(&self, memory: &Memory, types: &TypeTable) -> Vec<Step> {
-        let mut steps = memory.none();
+    // The ways to its elements or its fields.
+    fn inner_paths(&self, memory: &Memory, types: &TypeTable) -> Vec<Path> {
+        let mut paths = memory.none();
         match types.form(self.type_id) {
-            Some(TypeForm::Array { .. }) => memory.push(&mut steps, Step::Element),
+            Some(TypeForm::Array { .. }) => {
+                memory.push(&mut paths, self.path_on(memory, Step::Element));
+            }
             Some(TypeForm::Record { fields, .. }) => {
                 for field in fields.iter().take(MOST_PARTS) {
-                    memory.push(&mut steps, field_step(memory, &field.name));
+                    let name = memory.copy(&field.name);
+                    memory.push(&mut paths, self.path_on(memory, Step::Field { name }));
                 }
             }
             _ => {}
         }
-        steps
+        paths
+    }
+
+    fn path_on(&self, memory: &Memory, step: Step) -> Path {
+        let mut path = self.path(memory);
+        memory.push(&mut path.steps, step);
+        path
     }
 }
 
-fn field_step(memory: &Memory, name: &[u8]) -> Step {
-    Step::Field {
-        name: memory.list(Vec::from_slice(memory.alloc, name)),
+fn step_copied(memory: &Memory, step: &Step) -> Step {
+    match step {
+        Step::Element => Step::Element,
+        Step::Field { name } => Step::Field {
+            name: memory.copy(name),
+        },
     }
 }
 
@@ -118,67 +109,56 @@ pub(crate) fn all_parts(memory: &Memory, rows: &Rows) -> Vec<Vec<Part>> {
         };
         add_part(memory, rows, &mut parts, path);
         for place in 0..MOST_PARTS {
-            add_inner(memory, rows, &mut parts, place);
+            let Some(part) = parts.get(place) else {
+                break;
+            };
+            for path in part.inner_paths(memory, &rows.tree().types) {
+                add_part(memory, rows, &mut parts, path);
+            }
         }
         memory.push(&mut all, parts);
     }
     all
 }
 
-// Adds the parts of the part at a place.
-fn add_inner(memory: &Memory, rows: &Rows, parts: &mut Vec<Part>, place: usize) {
-    let mut paths = memory.none();
-    if let Some(part) = parts.get(place) {
-        for step in part.steps(memory, &rows.tree().types) {
-            let mut path = part.path(memory);
-            memory.push(&mut path.steps, step);
-            memory.push(&mut paths, path);
-        }
-    }
-    for path in paths {
-        add_part(memory, rows, parts, path);
-    }
-}
-
+// Adds what a path leads to, if that is there.
 fn add_part(memory: &Memory, rows: &Rows, parts: &mut Vec<Part>, path: Path) {
     if parts.len() < MOST_PARTS
-        && let Some(part) = Part::at(rows, path)
+        && let Some(named) = rows.named(&path)
     {
+        let (type_id, first) = (named.type_id, named.rows.first);
+        let part = Part {
+            path,
+            type_id,
+            first,
+        };
         memory.push(parts, part);
     }
 }
 
-/// What is accessed by fields and by so many indexes behind them, without these indexes; `None` where the access is
-/// another one.
-pub(crate) fn array_accessed(rows: &Rows, access: &Access, indexes: usize) -> Option<Array> {
-    let fields = access.selectors.len().checked_sub(indexes)?;
-    let mut selectors = access.selectors.iter().enumerate();
-    let goes_on = selectors.all(|(place, selector)| match selector {
-        Selector::Field { .. } => place < fields,
-        Selector::Element { .. } => fields <= place,
-    });
-    let is_direct = match &access.base {
-        Base::Record { path, .. } => path.iter().all(|step| matches!(step, PathStep::Field(_))),
-        Base::Variable => true,
+/// What is accessed by fields and by indexes behind them, without these indexes, or a part of an element, to which one
+/// index leads; and how many indexes there are. `None` where the access is another one.
+pub(crate) fn array_accessed(rows: &Rows, access: &Access) -> Option<(Array, usize)> {
+    let selectors = &access.selectors;
+    let indexes = selectors
+        .iter()
+        .filter(|selector| is_index(*selector))
+        .count();
+    let are_last = selectors.iter().rev().take(indexes).all(is_index);
+    let is_told = match &access.base {
+        Base::Variable => are_last || indexes == 1,
+        Base::Record { path, .. } => {
+            are_last && path.iter().all(|step| matches!(step, PathStep::Field(_)))
+        }
     };
-    (goes_on && is_direct).then_some(Array {
+    let array = Array {
         root: access.root,
         row: rows.accessed(access).first,
-        is_part: false,
-    })
+        is_part: !are_last,
+    };
+    is_told.then_some((array, indexes))
 }
 
-/// A part of an element of an array, to which one index leads.
-pub(crate) fn part_accessed(rows: &Rows, access: &Access) -> Option<Array> {
-    let mut selectors = access.selectors.iter();
-    let is_behind = matches!(selectors.next_back(), Some(Selector::Field { .. }));
-    let elements = selectors
-        .filter(|selector| matches!(selector, Selector::Element { .. }))
-        .count();
-    let is_variable = matches!(access.base, Base::Variable);
-    (is_behind && elements == 1 && is_variable).then_some(Array {
-        root: access.root,
-        row: rows.accessed(access).first,
-        is_part: true,
-    })
+fn is_index(selector: &Selector) -> bool {
+    matches!(selector, Selector::Element { .. })
 }

@@ -14,21 +14,28 @@ pub(crate) enum Question {
     Changed,
 }
 
-/// The blocks that call each, ascending, by its number.
-pub(crate) fn all_callers(program: &Program) -> Vec<Vec<u32>> {
+/// The blocks that each calls, ascending, by its number.
+pub(crate) fn all_called(program: &Program) -> Vec<Vec<u32>> {
     let memory = &program.memory;
-    let mut all = memory.rows(program.events.len());
-    for (caller, events) in program.events.iter().enumerate() {
-        for event in events {
-            if let Event::Call { call, .. } = event
-                && let Some(callers) = all.get_mut(call.block as usize)
-            {
+    let mut all = memory.none();
+    for block in 0..program.events.len() {
+        let calls = program.calls(number_of(block)).iter();
+        let mut called = memory.list(calls.map(|(block, _)| *block).collect(memory.alloc));
+        settle(&mut called);
+        memory.push(&mut all, called);
+    }
+    all
+}
+
+/// The blocks that call each, likewise, by those that each calls.
+pub(crate) fn all_callers(memory: &Memory, called: &[Vec<u32>]) -> Vec<Vec<u32>> {
+    let mut all = memory.rows(called.len());
+    for (caller, called) in called.iter().enumerate() {
+        for block in called {
+            if let Some(callers) = all.get_mut(*block as usize) {
                 memory.push(callers, number_of(caller));
             }
         }
-    }
-    for callers in all.iter_mut() {
-        settle(callers);
     }
     all
 }
@@ -37,10 +44,9 @@ pub(crate) fn all_callers(program: &Program) -> Vec<Vec<u32>> {
 pub(crate) fn spread(program: &Program, callers: &[Vec<u32>], question: Question) -> Vec<Vec<u32>> {
     let memory = &program.memory;
     let mut all = memory.rows(program.events.len());
-    let mut due = memory.list(Vec::from_slice(memory.alloc, &program.tree.bodies));
+    let mut due = memory.copy(&program.tree.bodies);
     due.reverse();
-    let is_due = Vec::from_elem(memory.alloc, true, program.events.len());
-    let mut is_due = memory.list(is_due);
+    let mut is_due = memory.filled(true, program.events.len());
     for _ in 0..u64::MAX {
         let Some(number) = due.pop() else {
             break;
@@ -88,56 +94,67 @@ pub(crate) fn add_roots(
         Event::Read(read) => memory.push(roots, read.access.root),
         Event::Call { call, actuals } => {
             let formals = program.parameters(call.block);
-            for root in row(all, call.block) {
-                if let Some(root) = root_passed(formals, actuals, *root) {
-                    memory.push(roots, root);
-                }
-            }
+            let known = row(all, call.block).iter();
+            let passed = known.filter_map(|root| root_passed(formals, actuals, *root));
+            memory.put(roots.extend(passed));
         }
         _ => {}
     }
 }
 
-/// Whether calls lead from each block back to it.
-pub(crate) fn all_recursive(memory: &Memory, callers: &[Vec<u32>]) -> Vec<bool> {
-    let mut met = memory.list(Vec::from_elem(memory.alloc, u32::MAX, callers.len()));
-    let mut answers = memory.none();
-    for number in 0..callers.len() {
-        let answer = is_recursive(memory, callers, number_of(number), &mut met);
-        memory.push(&mut answers, answer);
-    }
-    answers
+/// Whether calls lead from each block back to it: whether it is called by itself, or by one of those that lie on cycles
+/// with it. These are found by one search against the calls and another along them.
+pub(crate) fn all_recursive(
+    memory: &Memory,
+    called: &[Vec<u32>],
+    callers: &[Vec<u32>],
+) -> Vec<bool> {
+    let all = memory.list((0..number_of(called.len())).collect(memory.alloc));
+    let (mut done, _) = search(memory, callers, &all);
+    done.reverse();
+    let (_, starts) = search(memory, called, &done);
+    let answers = all.iter().map(|block| {
+        let start = starts.get(*block as usize);
+        row(callers, *block)
+            .iter()
+            .any(|caller| starts.get(*caller as usize) == start)
+    });
+    memory.list(answers.collect(memory.alloc))
 }
 
-// Whether they lead from a block back to it. `met` has for each block the last one to which it was found to lead.
-fn is_recursive(memory: &Memory, callers: &[Vec<u32>], block: u32, met: &mut [u32]) -> bool {
-    let mut due = memory.none();
-    memory.push(&mut due, block);
-    for _ in 0..u64::MAX {
-        let Some(next) = due.pop() else {
-            break;
-        };
-        for caller in row(callers, next) {
-            if let Some(known) = met.get_mut(*caller as usize)
-                && *known != block
+// A search along rows from some blocks, one after the other, each as far as blocks are new: the blocks, each behind
+// those that are found from it, and for each block, by its number, from which of the given ones it is found.
+fn search(memory: &Memory, rows: &[Vec<u32>], given: &[u32]) -> (Vec<u32>, Vec<u32>) {
+    let (mut due, mut done) = (memory.none(), memory.none());
+    let mut starts = memory.filled(u32::MAX, rows.len());
+    for start in given {
+        memory.push(&mut due, (*start, false));
+        for _ in 0..u64::MAX {
+            let Some((block, is_done)) = due.pop() else {
+                break;
+            };
+            if is_done {
+                memory.push(&mut done, block);
+            } else if let Some(known) = starts.get_mut(block as usize)
+                && *known == u32::MAX
             {
-                *known = block;
-                memory.push(&mut due, *caller);
+                *known = *start;
+                memory.push(&mut due, (block, true));
+                for next in row(rows, block) {
+                    memory.push(&mut due, (*next, false));
+                }
             }
         }
     }
-    met.get(block as usize) == Some(&block)
+    (done, starts)
 }
 
 // The variable that a caller knows by a root of the block that it calls; what is passed as a value is none of its own.
 fn root_passed(formals: &[u32], actuals: &[Passed], root: u32) -> Option<u32> {
-    for (formal, actual) in formals.iter().zip(actuals.iter()) {
-        if *formal == root {
-            return match actual {
-                Passed::Reference { access, .. } => Some(access.root),
-                _ => None,
-            };
-        }
+    let mut passed = formals.iter().zip(actuals.iter());
+    match passed.find(|(formal, _)| **formal == root) {
+        None => Some(root),
+        Some((_, Passed::Reference { access, .. })) => Some(access.root),
+        Some(_) => None,
     }
-    Some(root)
 }

@@ -1,7 +1,7 @@
 //! What loops change, which variables may share a place (ISO 7185:1990, 6.6.3.3), and the certificate that lists it.
 
 use crate::calls::{Question, add_roots};
-use analyser_claims::{Event, Memory, Program, number_of, row, settle};
+use analyser_claims::{Event, Memory, Program, number_of, settle};
 use certificate::{AliasPair, Certificate, LoopClaims, Section};
 use checker_calls::overlaps::{is_declared_in, may_overlap};
 use checker_loops::Pairs;
@@ -35,9 +35,7 @@ fn close(memory: &Memory, open: &mut Vec<(u32, Vec<u32>)>, found: &mut [Vec<u32>
     };
     settle(&mut roots);
     if let Some((_, outer)) = open.last_mut() {
-        for root in &roots {
-            memory.push(outer, *root);
-        }
+        memory.put(outer.extend_from_slice(&roots));
     }
     if let Some(place) = found.get_mut(number as usize) {
         *place = roots;
@@ -57,10 +55,8 @@ pub(crate) fn alias_pairs<'t>(
         // Callers mostly stand behind what they call, so pairs come all the way down in one round.
         for caller in program.tree.bodies.iter().rev() {
             let mut found = memory.none();
-            for event in row(&program.events, *caller) {
-                if let Event::Call { call, actuals } = event {
-                    add_pairs(program, &mut found, &listed, *caller, call.block, actuals);
-                }
+            for (called, actuals) in program.calls(*caller) {
+                add_pairs(program, &mut found, &listed, *caller, *called, actuals);
             }
             for (first, second) in found {
                 if !listed.has(first, second) {

@@ -1,6 +1,6 @@
 //! What is proposed where blocks begin and end, and in loops.
 
-use analyser_claims::{Claim, Event, Program, naming, row, settle};
+use analyser_claims::{Claim, Program, naming, row, settle};
 use analyser_tables::growth_of;
 use certificate::Fact;
 use checker_calls::{is_outward, is_value_parameter};
@@ -25,19 +25,16 @@ pub(crate) struct Grounds<'g, 'p, 't> {
 impl<'g, 'p, 't> Grounds<'g, 'p, 't> {
     /// What may hold where a block begins: also that those variables are defined which only claims name.
     pub(crate) fn entry(&self, block: u32) -> Vec<Fact> {
-        let mut facts = self.program.memory.none();
+        let memory = &self.program.memory;
         let mentions = row(self.mentions, block);
-        let named = Vec::from_slice(self.program.memory.alloc, mentions);
-        let mut named = self.program.memory.list(named);
+        let (mut facts, mut named) = (memory.none(), memory.copy(mentions));
         self.add_ranges(mentions, &mut facts);
-        for claim in self.naming(block, mentions) {
-            if claim.is_of_any(mentions) && self.may_stand(block, &claim, &[]) {
-                self.add(&claim, &mut facts);
-                for root in claim.roots().iter().flatten() {
-                    self.program.memory.push(&mut named, *root);
-                }
-            }
+        let mut claims = self.naming(block, mentions);
+        claims.retain(|claim| claim.is_of_any(mentions) && self.may_stand(block, claim, &[]));
+        for claim in &claims {
+            memory.put(named.extend(claim.roots().iter().flatten().copied()));
         }
+        self.add_claims(&claims, &mut facts);
         settle(&mut named);
         self.add_defined(&self.lasting(block, &named), &mut facts);
         facts
@@ -45,64 +42,47 @@ impl<'g, 'p, 't> Grounds<'g, 'p, 't> {
 
     /// What may hold where it ends.
     pub(crate) fn exit(&self, block: u32) -> Vec<Fact> {
-        let mut facts = self.program.memory.none();
+        let memory = &self.program.memory;
+        let mut facts = memory.none();
         let changes = row(self.changes, block);
         let mut ranges = self.lasting(block, changes);
-        if let Some(result) = self.program.result(block) {
-            self.program.memory.push(&mut ranges, result);
-        }
+        memory.put(ranges.extend(self.program.result(block)));
         self.add_ranges(&ranges, &mut facts);
         self.add_defined(&self.lasting(block, row(self.mentions, block)), &mut facts);
-        for claim in self.naming(block, changes) {
-            if self.may_stand(block, &claim, changes) {
-                self.add(&claim, &mut facts);
-            }
-        }
+        let mut claims = self.naming(block, changes);
+        claims.retain(|claim| self.may_stand(block, claim, changes));
+        self.add_claims(&claims, &mut facts);
         facts
     }
 
-    /// What may hold whenever a turn of each loop begins, by its number.
-    pub(crate) fn all_turns(&self) -> Vec<Vec<Fact>> {
-        let memory = &self.program.memory;
-        let mut all = memory.rows(self.turns.len());
-        for event in self.program.events.iter().flatten() {
-            if let Event::Enter { number, .. } = event
-                && let Some(facts) = all.get_mut(*number as usize)
-            {
-                *facts = self.turn(*number);
-            }
-        }
-        all
-    }
-
-    // Those of a loop. What a for gives its control variable lies between its bounds, so that gets no range here, which
-    // would grow turn by turn and move the ranges of all that is stored.
-    fn turn(&self, number: u32) -> Vec<Fact> {
+    /// What may hold whenever a turn of a loop begins. What a for gives its control variable lies between its bounds:
+    /// it gets no range here, which would grow turn by turn and move the ranges of all that is stored.
+    pub(crate) fn turn(&self, number: u32) -> Vec<Fact> {
         let memory = &self.program.memory;
         let mut facts = memory.none();
         let Some(one) = self.program.tree.loops.get(number as usize) else {
             return facts;
         };
         let changes = row(self.turns, number);
-        let mut touched = memory.none();
+        let mut touched = memory.copy(changes);
         for root in changes {
             let aliases = self.pairs.aliases_in(memory.alloc, one.block, *root);
-            for alias in memory.list(aliases).iter().chain(&[*root]) {
-                memory.push(&mut touched, *alias);
-            }
+            memory.put(touched.extend(memory.list(aliases)));
         }
         settle(&mut touched);
         self.add_ranges(&touched, &mut facts);
         if one.control.is_some() {
             self.add_growths(changes, &mut facts);
         }
-        for claim in self.naming(one.block, changes) {
-            let roots = claim.roots();
-            let mut named = roots.iter().flatten();
-            if !named.any(|root| one.controls.contains(root)) {
-                self.add(&claim, &mut facts);
-            }
-        }
+        let mut claims = self.naming(one.block, changes);
+        claims.retain(|claim| {
+            claim
+                .roots()
+                .iter()
+                .flatten()
+                .all(|root| !one.controls.contains(root))
+        });
+        self.add_claims(&claims, &mut facts);
         facts
     }
 
@@ -117,12 +97,8 @@ impl<'g, 'p, 't> Grounds<'g, 'p, 't> {
 
     // Those of some variables that no block has by value.
     fn lasting(&self, block: u32, roots: &[u32]) -> Vec<u32> {
-        let mut lasting = self.program.memory.none();
-        for root in roots {
-            if !is_value_parameter(self.program.tree, block, *root) {
-                self.program.memory.push(&mut lasting, *root);
-            }
-        }
+        let mut lasting = self.program.memory.copy(roots);
+        lasting.retain(|root| !is_value_parameter(self.program.tree, block, *root));
         lasting
     }
 
@@ -137,12 +113,11 @@ impl<'g, 'p, 't> Grounds<'g, 'p, 't> {
 
     // A range for each scalar part of some variables: none of its values is known yet.
     fn add_ranges(&self, roots: &[u32], facts: &mut Vec<Fact>) {
-        for root in roots {
-            for part in self.program.parts(*root) {
-                if self.program.tree.types.is_scalar(part.type_id) {
-                    let (path, range) = (part.path(&self.program.memory), Interval::EMPTY);
-                    self.program.memory.push(facts, Fact::Range { path, range });
-                }
+        let (memory, types) = (&self.program.memory, &self.program.tree.types);
+        for part in roots.iter().flat_map(|root| self.program.parts(*root)) {
+            if types.is_scalar(part.type_id) {
+                let (path, range) = (part.path(memory), Interval::EMPTY);
+                memory.push(facts, Fact::Range { path, range });
             }
         }
     }
@@ -163,20 +138,17 @@ impl<'g, 'p, 't> Grounds<'g, 'p, 't> {
     // That each part of some variables is defined that has no index.
     fn add_defined(&self, roots: &[u32], facts: &mut Vec<Fact>) {
         let memory = &self.program.memory;
-        for root in roots {
-            for part in self.program.parts(*root) {
-                if part.is_direct() {
-                    let (path, spans) = (part.path(memory), Spans::None);
-                    memory.push(facts, Fact::Defined { path, spans });
-                }
+        for part in roots.iter().flat_map(|root| self.program.parts(*root)) {
+            if part.is_direct() {
+                let (path, spans) = (part.path(memory), Spans::None);
+                memory.push(facts, Fact::Defined { path, spans });
             }
         }
     }
 
-    // A claim, if certificates can tell it.
-    fn add(&self, claim: &Claim, facts: &mut Vec<Fact>) {
-        if let Some(fact) = claim.fact(self.program) {
-            self.program.memory.push(facts, fact);
-        }
+    // Claims, as far as certificates can tell them.
+    fn add_claims(&self, claims: &[Claim], facts: &mut Vec<Fact>) {
+        let told = claims.iter().filter_map(|claim| claim.fact(self.program));
+        self.program.memory.put(facts.extend(told));
     }
 }

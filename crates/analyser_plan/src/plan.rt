@@ -1,4 +1,4 @@
-use crate::calls::{Question, all_callers, all_recursive, spread};
+use crate::calls::{Question, all_called, all_callers, all_recursive, spread};
 use crate::frame::{alias_pairs, frame, loop_changes};
 use crate::places::Grounds;
 use crate::steps::add_steps;
@@ -47,7 +47,8 @@ impl Plan {
     /// No memory.
     pub fn of(alloc: Global, rows: &Rows) -> Result<Plan, AllocError> {
         let program = Program::of(alloc, rows);
-        let callers = all_callers(&program);
+        let called = all_called(&program);
+        let callers = all_callers(&program.memory, &called);
         let changes = spread(&program, &callers, Question::Changed);
         let mentions = spread(&program, &callers, Question::Mentioned);
         let turns = loop_changes(&program, &changes);
@@ -63,15 +64,18 @@ impl Plan {
         };
         let memory = &program.memory;
         let (mut entries, mut exits) = (memory.rows(1), memory.rows(1));
-        for block in 1..program.events.len() {
-            memory.push(&mut entries, grounds.entry(number_of(block)));
-            memory.push(&mut exits, grounds.exit(number_of(block)));
+        for block in 1..number_of(program.events.len()) {
+            memory.push(&mut entries, grounds.entry(block));
+            memory.push(&mut exits, grounds.exit(block));
         }
-        let loops = grounds.all_turns();
+        let mut loops = memory.none();
+        for number in 0..number_of(turns.len()) {
+            memory.push(&mut loops, grounds.turn(number));
+        }
         let mut ladders = Ladders::new(alloc, rows.count())?;
         add_steps(&program, &mut ladders);
         ladders.finish()?;
-        let is_recursive = all_recursive(&program.memory, &callers);
+        let is_recursive = all_recursive(&program.memory, &called, &callers);
         let frame = frame(&program, listed, changes, turns);
         program.memory.finish()?;
         Ok(Plan {

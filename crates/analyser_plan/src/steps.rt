@@ -35,12 +35,13 @@ fn add_step(program: &Program, event: &Event, ladders: &mut Ladders) {
                 }
             }
         }
-        Event::Chain {
-            first,
-            rest: [link],
-        } if matches!(link.operation, Dyadic::Relation(_)) => {
-            meet(rows, first, &link.operand, ladders);
-            meet(rows, &link.operand, first, ladders);
+        Event::Evaluate(Expr::Chain { first, rest }) => {
+            if let [link] = rest.as_slice()
+                && let Dyadic::Relation(_) = link.operation
+            {
+                meet(rows, first, &link.operand, ladders);
+                meet(rows, &link.operand, first, ladders);
+            }
         }
         Event::Assign(assignment) => {
             let target = rows.accessed(&assignment.target);
@@ -140,20 +141,20 @@ fn pass(program: &Program, target: Span, value: &Expr, fits: RangeTest, ladders:
 
 // A remainder by a constant has narrow ends, also behind a constant that is added.
 fn pass_remainder(rows: &Rows, target: Span, first: &Expr, rest: &[Link], ladders: &mut Ladders) {
-    let Some(link) = rest.last() else {
-        return;
-    };
-    let Some(Spelling::Constant(number)) = spelled(rows, &link.operand) else {
-        return;
-    };
-    if let Dyadic::Mod { .. } = link.operation {
-        ladders.add(target.first, 0);
-        ladders.add(target.first, number.saturating_sub(1));
+    add_remainder(rows, target, rest, 0, ladders);
+    if let (Some(link), Expr::Chain { rest, .. }) = (rest.last(), first)
+        && let Dyadic::Plus { .. } = link.operation
+        && let Some(Spelling::Constant(number)) = spelled(rows, &link.operand)
+    {
+        add_remainder(rows, target, rest, number, ladders);
     }
-    if let (Dyadic::Plus { .. }, Expr::Chain { rest, .. }) = (link.operation, first)
-        && let Some(inner) = rest.last()
-        && let Dyadic::Mod { .. } = inner.operation
-        && let Some(Spelling::Constant(divisor)) = spelled(rows, &inner.operand)
+}
+
+// The ends of a remainder plus a number, if operators end with it.
+fn add_remainder(rows: &Rows, target: Span, links: &[Link], number: i64, ladders: &mut Ladders) {
+    if let Some(link) = links.last()
+        && let Dyadic::Mod { .. } = link.operation
+        && let Some(Spelling::Constant(divisor)) = spelled(rows, &link.operand)
     {
         ladders.add(target.first, number);
         let last = number.saturating_add(divisor).saturating_sub(1);

@@ -1,9 +1,9 @@
 use certificate::Fact;
 use checker_calls::{Bearers, Bindings, are_given, bearers_named};
-use checker_loops::{gives_facts, rows_named};
+use checker_loops::gives_facts;
 use checker_rows::Span;
 use checker_trail::State;
-use domain::{Domain, Interval, Path};
+use domain::{Domain, Growth, Interval, Path};
 use std::slice;
 
 /// What comes to a place of facts, at a point that runs may come to.
@@ -46,10 +46,16 @@ impl<'s, 'r, 'b, 'a> Coming<'s, 'r, 'b, 'a> {
         }
     }
 
-    /// The least range of what lies at a path of the place: the empty range, where the path names nothing.
-    pub fn range(&self, path: &Path) -> Interval {
+    /// How a variable grew with a turn of the loop at whose head the place is, if it is known to.
+    pub(crate) fn growth(&self, root: u32) -> Option<Growth> {
+        Some(self.state().growth(root)?.growth)
+    }
+
+    /// The least range of what lies at a path of the place, which names these rows there: the empty range, where it
+    /// names nothing.
+    pub fn range(&self, path: &Path, rows: Span) -> Interval {
         match self {
-            Coming::Here(state) => range_of_rows(state, rows_named(state.table(), path)),
+            Coming::Here(state) => range_of_rows(state, rows),
             Coming::Called { state, bindings } => {
                 match bearers_named(state.table(), *bindings, path) {
                     Bearers::Passed(ranges) => range_of_all(ranges),
@@ -61,11 +67,8 @@ impl<'s, 'r, 'b, 'a> Coming<'s, 'r, 'b, 'a> {
 }
 
 fn range_of_rows(state: &State, rows: Span) -> Interval {
-    let mut all = Interval::EMPTY;
-    for row in rows.first..rows.end() {
-        all = all.join(&state.row_range(row));
-    }
-    all
+    let rows = rows.first..rows.end();
+    rows.fold(Interval::EMPTY, |all, row| all.join(&state.row_range(row)))
 }
 
 fn range_of_all(ranges: &[Interval]) -> Interval {

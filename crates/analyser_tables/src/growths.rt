@@ -56,21 +56,15 @@ pub(crate) fn turn(growth: &mut Growth, moves: &mut u8, turned: Option<Growth>) 
     if turned.is_within_next(growth) {
         return Outcome::Stays;
     }
-    let added = added(growth, &turned);
-    let known = if *moves == 0 {
-        Interval::EMPTY
-    } else {
-        steps(growth)
-    };
+    let mut added = added(growth, &turned);
     if added.is_empty() || *moves == MOST_MOVES {
         return fallen(*moves);
     }
+    if 0 < *moves {
+        added = steps(growth).join(&added);
+    }
     *moves = moves.saturating_add(1);
-    moved(set(
-        &mut growth.first_step,
-        &mut growth.last_step,
-        known.join(&added),
-    ))
+    moved(set(&mut growth.first_step, &mut growth.last_step, added))
 }
 
 // A growth that never moved says what the range of its variable does, which comes from outside.
@@ -92,23 +86,17 @@ fn moved(is_set: bool) -> Outcome {
 
 /// Two numbers of a growth are the ends of a range from here on, if that has such. Whether it has.
 pub(crate) fn set(first: &mut i32, last: &mut i32, range: Interval) -> bool {
-    let Some((one, other)) = ends(range) else {
-        return false;
-    };
-    *first = one;
-    *last = other;
-    true
-}
-
-// The ends of a range of integers that isn't empty.
-fn ends(range: Interval) -> Option<(i32, i32)> {
     if range.is_empty() || !range.leq(&Interval::INTEGER) {
-        return None;
+        return false;
     }
-    Some((
-        i32::try_from(range.first()).ok()?,
-        i32::try_from(range.last()).ok()?,
-    ))
+    match (i32::try_from(range.first()), i32::try_from(range.last())) {
+        (Ok(one), Ok(other)) => {
+            *first = one;
+            *last = other;
+            true
+        }
+        _ => false,
+    }
 }
 
 /// Of the growths and the ranges of the same variables, at the head of a for that finishes so many turns at most, those
@@ -141,14 +129,11 @@ fn idle(facts: &[Fact], rows: &Rows, place: usize, most: i64) -> Option<usize> {
 
 // The range of a variable among facts, with its place.
 fn range_of(facts: &[Fact], root: u32) -> Option<(usize, Interval)> {
-    for (place, fact) in facts.iter().enumerate() {
-        if let Fact::Range { path, range } = fact
-            && path.root == root
-        {
-            return Some((place, *range));
-        }
-    }
-    None
+    let mut places = facts.iter().enumerate();
+    places.find_map(|(place, fact)| match fact {
+        Fact::Range { path, range } if path.root == root => Some((place, *range)),
+        _ => None,
+    })
 }
 
 /// Takes out what stands at a place, which the last one takes.

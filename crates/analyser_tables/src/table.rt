@@ -3,8 +3,7 @@ use crate::outcome::Outcome;
 use crate::{Coming, Ladders};
 use certificate::Fact;
 use checker_loops::rows_named;
-use checker_rows::Rows;
-use checker_state::Growing;
+use checker_rows::{Rows, Span};
 use domain::{Domain, Growth, Interval, Path};
 use std::alloc::{AllocError, Global};
 use std::mem;
@@ -48,6 +47,8 @@ pub struct Table {
 /// What stands beside a fact; of use for ranges and growths alone.
 #[derive(Clone, Copy)]
 struct Beside {
+    // The rows of a range; none where its path names nothing.
+    rows: Span,
     // How often each end moved, where this was counted; of a growth, how often what turns add did.
     first_moves: u8,
     last_moves: u8,
@@ -70,22 +71,19 @@ pub struct Pace<'p, 'a> {
 }
 
 impl Table {
-    /// The table of a place with so many facts, to which nothing came.
+    /// The table of a place with these facts, to which nothing came.
     ///
     /// # Errors
     /// No memory.
-    pub fn new(alloc: Global, facts: usize) -> Result<Table, AllocError> {
-        let none = Beside {
-            first_moves: 0,
-            last_moves: 0,
-            collected: Interval::EMPTY,
-            steps: Interval::EMPTY,
-        };
+    pub fn new(alloc: Global, rows: &Rows, facts: &[Fact]) -> Result<Table, AllocError> {
         Ok(Table {
             is_reached: false,
             turns: 0,
             most: 0,
-            beside: Vec::from_elem(alloc, none, facts)?,
+            beside: facts
+                .iter()
+                .map(|fact| Beside::of(rows, fact))
+                .collect(alloc)?,
         })
     }
 
@@ -128,10 +126,8 @@ impl Table {
         if self.turns != MANY_TURNS && self.turns != MOST_TURNS {
             return;
         }
-        for (place, beside) in self.beside.iter_mut().enumerate() {
-            if let Some(fact) = facts.get_mut(place)
-                && beside.is_still()
-            {
+        for (fact, beside) in facts.iter_mut().zip(self.beside.iter_mut()) {
+            if beside.first_moves == 0 && beside.last_moves == 0 {
                 pace.hurry(fact, beside, self.turns);
             }
         }
@@ -139,13 +135,13 @@ impl Table {
 
     // A state comes in a round that narrows: nothing moves yet.
     fn collect(&mut self, facts: &[Fact], coming: &Coming, counts: bool) {
-        for (place, beside) in self.beside.iter_mut().enumerate() {
-            match facts.get(place) {
-                Some(Fact::Range { path, .. }) => beside.come(coming.range(path)),
-                Some(Fact::Grows { root, growth }) if counts => {
-                    beside.turn(growth, coming.state().growth(*root));
+        for (fact, beside) in facts.iter().zip(self.beside.iter_mut()) {
+            match fact {
+                Fact::Range { path, .. } => beside.come(coming.range(path, beside.rows)),
+                Fact::Grows { root, growth } if counts => {
+                    beside.turn(growth, coming.growth(*root));
                 }
-                Some(Fact::Grows { root, .. }) => beside.come(coming.state().range(*root)),
+                Fact::Grows { root, .. } => beside.come(coming.state().range(*root)),
                 _ => {}
             }
         }
@@ -154,10 +150,10 @@ impl Table {
     /// The round is done: each range is met with what was collected, if anything was. Whether anything moved.
     pub fn narrow(&mut self, facts: &mut [Fact]) -> bool {
         let mut has_moved = false;
-        for (place, beside) in self.beside.iter_mut().enumerate() {
-            has_moved = match facts.get_mut(place) {
-                Some(Fact::Range { range, .. }) => narrowed(range, &mut beside.collected),
-                Some(Fact::Grows { growth, .. }) => beside.narrow(growth),
+        for (fact, beside) in facts.iter_mut().zip(self.beside.iter_mut()) {
+            has_moved = match fact {
+                Fact::Range { range, .. } => narrowed(range, &mut beside.collected),
+                Fact::Grows { growth, .. } => beside.narrow(growth),
                 _ => false,
             } || has_moved;
         }
@@ -171,15 +167,17 @@ impl Table {
 }
 
 impl Beside {
-    // Whether nothing that counts moved the fact.
-    fn is_still(&self) -> bool {
-        self.first_moves == 0 && self.last_moves == 0
-    }
-
-    // Both ends moved to a step.
-    fn leap(&mut self) {
-        self.first_moves = FREE_MOVES + 1;
-        self.last_moves = FREE_MOVES + 1;
+    fn of(rows: &Rows, fact: &Fact) -> Beside {
+        Beside {
+            rows: match fact {
+                Fact::Range { path, .. } => rows_named(rows, path),
+                _ => Span::none(),
+            },
+            first_moves: 0,
+            last_moves: 0,
+            collected: Interval::EMPTY,
+            steps: Interval::EMPTY,
+        }
     }
 
     // A range comes in a round that narrows.
@@ -188,9 +186,9 @@ impl Beside {
     }
 
     // A turn ends, in such a round.
-    fn turn(&mut self, growth: &Growth, growing: Option<Growing>) {
-        if let Some(growing) = growing {
-            self.steps = self.steps.join(&added(growth, &growing.growth));
+    fn turn(&mut self, growth: &Growth, turned: Option<Growth>) {
+        if let Some(turned) = turned {
+            self.steps = self.steps.join(&added(growth, &turned));
         }
     }
 
@@ -219,32 +217,18 @@ impl<'p, 'a> Pace<'p, 'a> {
     // What becomes of a fact.
     fn outcome(&self, fact: &mut Fact, beside: &mut Beside, coming: &Coming) -> Outcome {
         match fact {
-            Fact::Range { path, range } => {
-                let row = rows_named(self.rows, path).first;
-                if self.rows.row_limits(row).leq(range) {
-                    return Outcome::Stays;
-                }
-                let leads = self.leads(row, path, coming);
-                self.widen(row, range, coming.range(path), leads, beside)
-            }
-            Fact::Defined { .. } | Fact::Order { .. } => claimed(
-                fact,
-                &mut beside.first_moves,
-                coming,
-            ),
+            Fact::Range { path, range } => self.widen(path, range, beside, coming),
+            Fact::Defined { .. } | Fact::Order { .. } => claimed(fact, beside, coming),
             Fact::Grows { root, growth } if self.counts => {
-                let turned = coming.state().growth(*root);
-                let turned = turned.map(|growing| growing.growth);
-                turn(growth, &mut beside.first_moves, turned)
+                turn(growth, &mut beside.first_moves, coming.growth(*root))
             }
             Fact::Grows { root, growth } => begin(growth, coming.state().range(*root)),
         }
     }
 
-    // Where the values of a row may lead at the head of a loop: a variable that grows gets no others behind a turn than
-    // those that all turns lead to.
-    fn leads(&self, row: usize, path: &Path, coming: &Coming) -> Interval {
-        let limits = self.rows.row_limits(row);
+    // Where the values of a row of such a type may lead at the head of a loop: a variable that grows gets no others
+    // behind a turn than those that all turns lead to.
+    fn leads(&self, path: &Path, limits: Interval, coming: &Coming) -> Interval {
         match coming {
             Coming::Here(state) if self.counts && path.steps.is_empty() => {
                 match state.growth(path.root) {
@@ -256,49 +240,50 @@ impl<'p, 'a> Pace<'p, 'a> {
         }
     }
 
-    // Widens a range of a row by what comes, which may lead so far. One of all values stays: it may get narrower.
+    // Widens a range by what comes. One of all values stays: it may get narrower.
     fn widen(
         &self,
-        row: usize,
+        path: &Path,
         range: &mut Interval,
-        came: Interval,
-        leads: Interval,
         beside: &mut Beside,
+        coming: &Coming,
     ) -> Outcome {
-        let limits = self.rows.row_limits(row);
-        let came = came.meet(&limits);
+        let limits = self.rows.row_limits(beside.rows.first);
+        if limits.leq(range) {
+            return Outcome::Stays;
+        }
+        let came = coming.range(path, beside.rows).meet(&limits);
         if came.leq(range) {
             return Outcome::Stays;
         }
         *range = if range.is_empty() {
             came
         } else {
-            self.widened(row, *range, came, leads, beside)
+            let leads = self.leads(path, limits, coming);
+            self.widened(*range, came, leads, beside)
         };
         Outcome::Moves
     }
 
-    // A range of a row with what comes, neither of which is empty, and so far beyond that as its ends move.
+    // A range with what comes, which may lead so far, neither of which is empty, and so far beyond that as its ends
+    // move.
     fn widened(
         &self,
-        row: usize,
         range: Interval,
         came: Interval,
         leads: Interval,
         beside: &mut Beside,
     ) -> Interval {
+        let row = beside.rows.first;
         let limits = range.join(&came).join(&leads);
-        let mut first = range.first();
+        let (mut first, mut last) = (range.first(), range.last());
         if came.first() < first {
-            let (came, limit) = (came.first(), limits.first());
-            let step = self.ladders.below(row, came).unwrap_or(limit);
-            first = self.end(&mut beside.first_moves, came, step, limit);
+            let step = self.ladders.below(row, came.first());
+            first = self.end(&mut beside.first_moves, came.first(), step, limits.first());
         }
-        let mut last = range.last();
         if last < came.last() {
-            let (came, limit) = (came.last(), limits.last());
-            let step = self.ladders.above(row, came).unwrap_or(limit);
-            last = self.end(&mut beside.last_moves, came, step, limit);
+            let step = self.ladders.above(row, came.last());
+            last = self.end(&mut beside.last_moves, came.last(), step, limits.last());
         }
         limits.at_least(first).at_most(last)
     }
@@ -306,10 +291,11 @@ impl<'p, 'a> Pace<'p, 'a> {
     // Goes on with a fact that none of so many turns moved, though they moved others.
     fn hurry(&self, fact: &mut Fact, beside: &mut Beside, turns: u32) {
         match fact {
-            Fact::Range { path, range } if !range.is_empty() => {
-                let beyond = self.beyond(path, *range, turns == MOST_TURNS);
+            Fact::Range { range, .. } if !range.is_empty() => {
+                let beyond = self.beyond(beside.rows.first, *range, turns == MOST_TURNS);
                 if !beyond.leq(range) {
-                    beside.leap();
+                    beside.first_moves = FREE_MOVES + 1;
+                    beside.last_moves = FREE_MOVES + 1;
                     *range = beyond;
                 }
             }
@@ -321,9 +307,8 @@ impl<'p, 'a> Pace<'p, 'a> {
         }
     }
 
-    // From the next step below a range to the next one above it, where there are any; or all values.
-    fn beyond(&self, path: &Path, range: Interval, is_last: bool) -> Interval {
-        let row = rows_named(self.rows, path).first;
+    // From the next step below a range of a row to the next one above it, where there are any; or all values.
+    fn beyond(&self, row: usize, range: Interval, is_last: bool) -> Interval {
         let limits = self.rows.row_limits(row);
         if is_last {
             return limits;
@@ -337,7 +322,7 @@ impl<'p, 'a> Pace<'p, 'a> {
     }
 
     // Where an end goes that moves: to what comes, to the step of the ladder there, or to the last that it may be.
-    fn end(&self, moves: &mut u8, came: i64, step: i64, limit: i64) -> i64 {
+    fn end(&self, moves: &mut u8, came: i64, step: Option<i64>, limit: i64) -> i64 {
         if !self.counts {
             return came;
         }
@@ -345,7 +330,7 @@ impl<'p, 'a> Pace<'p, 'a> {
         if *moves <= FREE_MOVES {
             came
         } else if *moves <= FREE_MOVES + LADDER_MOVES {
-            step
+            step.unwrap_or(limit)
         } else {
             limit
         }
@@ -353,12 +338,13 @@ impl<'p, 'a> Pace<'p, 'a> {
 }
 
 // What becomes of a claim. The number of an order that isn't given rises until it is.
-fn claimed(fact: &mut Fact, moves: &mut u8, coming: &Coming) -> Outcome {
+fn claimed(fact: &mut Fact, beside: &mut Beside, coming: &Coming) -> Outcome {
     if coming.gives(fact) {
         return Outcome::Stays;
     }
-    let least = if *moves < ORDER_MOVES { i32::MIN } else { -1 };
-    *moves = moves.saturating_add(1);
+    let is_free = beside.first_moves < ORDER_MOVES;
+    let least = if is_free { i32::MIN } else { -1 };
+    beside.first_moves = beside.first_moves.saturating_add(1);
     for _ in 0..NUMBERS {
         if rises(fact, least) && coming.gives(fact) {
             return Outcome::Moves;

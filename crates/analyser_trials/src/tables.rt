@@ -280,10 +280,9 @@ fn row_told(alloc: Global, row: &Row) -> Result<String, AllocError> {
     let rows = Rows::of(alloc, &tree)?;
     let ladders = ladders_of(alloc, rows.count(), steps)?;
     let basis = Basis { rows, ladders };
-    let mut place = Place {
-        facts: facts_of(alloc, claims)?,
-        table: Table::new(alloc, claims.len())?,
-    };
+    let facts = facts_of(alloc, claims)?;
+    let table = Table::new(alloc, &basis.rows, &facts)?;
+    let mut place = Place { facts, table };
     let mut state = State::of_types(alloc, Version::Two, &basis.rows);
     let mut told = String::new(alloc);
     for event in events {
@@ -615,9 +614,9 @@ fn takes_what_is_passed(rt: HostRuntime) -> Result<(), Fail> {
         actuals: &actuals,
     };
     let coming = Coming::called(&state, bindings);
-    let came = coming.range(&path(alloc, 1));
+    let came = coming.range(&path(alloc, 1), rows.of_variable(1));
     assert!(rt; came.first() == 3 && came.last() == 4);
-    assert!(rt; coming.range(&path(alloc, 2)).last() == 1);
+    assert!(rt; coming.range(&path(alloc, 2), rows.of_variable(2)).last() == 1);
     assert!(rt; coming.gives(&defined(alloc, 1)) && !coming.gives(&defined(alloc, 0)));
     Ok(())
 }

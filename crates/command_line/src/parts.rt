@@ -25,11 +25,7 @@ pub(crate) fn named<'a>(
 pub(crate) fn option<'a>(alloc: Global, name: &'a str, shown: &'a str, help: &'a str) -> Arg<'a>
     ensures { rule_of result ≡ option name.entry.now }
 {
-    Arg::new(alloc, name)
-        .long(name)
-        .value_name(shown)
-        .help(help)
-        .action(ArgAction::Set)
+    value(alloc, name, shown, help).long(name)
 }
 
 /// The flag `--NAME`.

@@ -125,9 +125,3 @@ names_gathered b constants types variables routines k0 k1 k2 k3 k4 constants_are
     variables_are)
     routines_are
     ∙ sym (names_of_block k0 b)
-
--- names behind others
-pub names_behind : (names more met : List Name) (before k0 k1 : List (List ℕ)) → met ≡ names → k0 ≡ before ++ all_folded met
-    → k1 ≡ k0 ++ all_folded more → k1 ≡ before ++ all_folded (names ++ more)
-names_behind names more met before k0 k1 is first second =
-    second ∙ ap (λ k. k ++ all_folded more) (first ∙ ap (λ l. before ++ all_folded l) is) ∙ sym (folded_both before names more)

@@ -6,6 +6,7 @@ ghost use Rattle.typing.specs.Names.{denoter_names};
 ghost use Rattle.typing.specs.Outcomes.{TypingTakes, Makes};
 ghost use Rattle.declarations.specs.Known.{AreKnown, names_in, names_in_groups};
 
+use crate::Typed;
 use place::Place;
 use scopes::Denotation;
 use syntax_tree::{Constant, Name, TypeDenoter};
@@ -16,7 +17,7 @@ use typing::{Typer, add_fields, value_of};
 /// The type that a denoter denotes (6.4.1).
 #[cycle(denoters)]
 #[tactic(auto, using(typing::proofs::Written::written_denoters))]
-pub(crate) fn denoted_type(typer: &mut Typer, denoter: &TypeDenoter) -> Result<TypeId, TypeFault>
+pub(crate) fn denoted_type(typer: &mut Typer, denoter: &TypeDenoter) -> Typed<TypeId>
     requires known { AreKnown (denoter_names denoter.now) typer.old.regions }
     ensures { TypingTakes (spec.denoted_type denoter.now typer.old) result typer.new }
 {
@@ -62,12 +63,7 @@ pub(crate) fn denoted_type(typer: &mut Typer, denoter: &TypeDenoter) -> Result<T
 // A set type, whose base is ordinal (6.4.3.4).
 #[cycle(denoters)]
 #[tactic(auto, unfolding(typing::specs::Denoters::set_type))]
-fn set_type(
-    typer: &mut Typer,
-    packed: bool,
-    place: Place,
-    base: &TypeDenoter,
-) -> Result<TypeId, TypeFault>
+fn set_type(typer: &mut Typer, packed: bool, place: Place, base: &TypeDenoter) -> Typed<TypeId>
     requires known { AreKnown (denoter_names base.now) typer.old.regions }
     ensures { TypingTakes (spec.set_type packed place (spec.denoted_type base.now) typer.old) result typer.new }
 {
@@ -81,7 +77,7 @@ fn set_type(
 
 // The index types of an array, in their order.
 #[cycle(denoters)]
-fn index_types(typer: &mut Typer, denoters: &[TypeDenoter]) -> Result<Vec<TypeId>, TypeFault>
+fn index_types(typer: &mut Typer, denoters: &[TypeDenoter]) -> Typed<Vec<TypeId>>
     requires known { AreKnown (names_in denoters.now) typer.old.regions }
     ensures { Makes (λ ids. ids.items) (λ ids. [])
         (spec.index_types (map spec.denoted_type denoters.now) typer.old) result typer.new }
@@ -96,7 +92,7 @@ fn index_types(typer: &mut Typer, denoters: &[TypeDenoter]) -> Result<Vec<TypeId
 // An index type: K1 at the latest token of it where it is not ordinal.
 #[cycle(denoters)]
 #[tactic(auto, unfolding(typing::specs::Denoters::index_type, typing::specs::Steps::latest))]
-fn index_type(typer: &mut Typer, denoter: &TypeDenoter) -> Result<TypeId, TypeFault>
+fn index_type(typer: &mut Typer, denoter: &TypeDenoter) -> Typed<TypeId>
     requires known { AreKnown (denoter_names denoter.now) typer.old.regions }
     ensures { TypingTakes (spec.index_type (spec.denoted_type denoter.now) typer.old) result typer.new }
 {
@@ -113,7 +109,7 @@ fn grouped_fields(
     typer: &mut Typer,
     rows: &[Vec<Name>],
     denoters: &[TypeDenoter],
-) -> Result<Vec<Field>, TypeFault>
+) -> Typed<Vec<Field>>
     requires known { AreKnown (names_in_groups rows.now denoters.now) typer.old.regions }
     ensures { Makes (λ fields. map field_form fields.items) (λ fields. [])
         (spec.grouped_fields [] (fields_of rows.now (map spec.denoted_type denoters.now)) typer.old) result typer.new }
@@ -128,7 +124,7 @@ fn grouped_fields(
 
 // An enumerated type: its constants count from 0 (6.4.2.3).
 #[tactic(auto, unfolding(typing::specs::Denoters::enumeration, typing::specs::Steps::latest))]
-fn enumeration(typer: &mut Typer, names: &[Name]) -> Result<TypeId, TypeFault>
+fn enumeration(typer: &mut Typer, names: &[Name]) -> Typed<TypeId>
     requires known { AreKnown names.now typer.old.regions }
     ensures { TypingTakes (spec.enumeration names.now typer.old) result typer.new }
 {
@@ -140,7 +136,7 @@ fn enumeration(typer: &mut Typer, names: &[Name]) -> Result<TypeId, TypeFault>
 }
 
 // Its constants, in their order.
-fn declare_constants(typer: &mut Typer, type_id: TypeId, names: &[Name]) -> Result<(), TypeFault>
+fn declare_constants(typer: &mut Typer, type_id: TypeId, names: &[Name]) -> Typed<()>
     requires known { AreKnown names.now typer.old.regions }
     ensures { TypingTakes (spec.constants_from type_id 0 names.now typer.old) result typer.new }
 {
@@ -153,12 +149,7 @@ fn declare_constants(typer: &mut Typer, type_id: TypeId, names: &[Name]) -> Resu
 
 // A subrange between two constants (6.4.2.4).
 #[tactic(auto, unfolding(typing::specs::Denoters::subrange))]
-fn subrange(
-    typer: &mut Typer,
-    first: &Constant,
-    between: Place,
-    last: &Constant,
-) -> Result<TypeId, TypeFault>
+fn subrange(typer: &mut Typer, first: &Constant, between: Place, last: &Constant) -> Typed<TypeId>
     ensures { TypingTakes (spec.subrange first.now between last.now typer.old) result typer.new }
 {
     let first = typer.ordinal_constant(first)?;

@@ -6,6 +6,7 @@ ghost use Rattle.typing.specs.Routines as spec;
 ghost use Rattle.declarations.specs.Parts.{begun_of, heading_inside, heading_of, name_of_result};
 ghost use Rattle.declarations.specs.Known.{AreKnown};
 
+use crate::Typed;
 use crate::names::formal_names;
 use place::Place;
 use scopes::Denotation;
@@ -24,7 +25,7 @@ pub struct BegunRoutine {
 }
 
 /// Passes the heading of a procedure or of a function (6.6.1, 6.6.2): S4 at its name where it is nested too deep.
-pub fn begin_routine(typer: &mut Typer, heading: &Heading) -> Result<BegunRoutine, TypeFault>
+pub fn begin_routine(typer: &mut Typer, heading: &Heading) -> Typed<BegunRoutine>
     requires known { AreKnown (heading_names heading.now) typer.old.regions }
     ensures { Makes begun_of (λ made. []) (spec.headed heading.now typer.old) result typer.new }
 {
@@ -40,11 +41,7 @@ pub fn begin_routine(typer: &mut Typer, heading: &Heading) -> Result<BegunRoutin
 }
 
 // A procedure: one without parameters may be one that waits for its block.
-fn begin_procedure(
-    typer: &mut Typer,
-    name: &Name,
-    formals: &[FormalGroup],
-) -> Result<BegunRoutine, TypeFault>
+fn begin_procedure(typer: &mut Typer, name: &Name, formals: &[FormalGroup]) -> Typed<BegunRoutine>
     requires known { AreKnown (name.now ∷ []) typer.old.regions }
     ensures { Makes begun_of (λ made. []) (spec.procedure_headed name.now formals.now typer.old) result typer.new }
 {
@@ -61,7 +58,7 @@ fn begin_procedure(
 }
 
 // A function that waits for its block: K1 at its name where there is none.
-fn resume(typer: &mut Typer, name: &Name) -> Result<BegunRoutine, TypeFault>
+fn resume(typer: &mut Typer, name: &Name) -> Typed<BegunRoutine>
     ensures { Makes begun_of (λ made. []) (spec.headed (Resumed name.now) typer.old) result typer.new }
 {
     let number = typer
@@ -80,21 +77,18 @@ fn begin(
     name: &Name,
     groups: &[FormalGroup],
     of_result: Option<&Name>,
-) -> Result<BegunRoutine, TypeFault>
+) -> Typed<BegunRoutine>
     requires known { AreKnown (name.now ∷ []) typer.old.regions }
     ensures { Makes begun_of (λ made. []) (spec.begun name.now groups.now (name_of_result of_result.entry) typer.old)
         result typer.new }
 {
     typer.may_nest(name.place)?;
     let number = typer.next_block(name.place)?;
-    let is_function = of_result.is_some();
-    typer.declare(
-        name,
-        Denotation::Routine {
-            block: number,
-            is_function,
-        },
-    )?;
+    let routine = Denotation::Routine {
+        block: number,
+        is_function: of_result.is_some(),
+    };
+    typer.declare(name, routine)?;
     heading(typer, number, name.place, groups, of_result)?;
     Ok(BegunRoutine {
         number,
@@ -109,7 +103,7 @@ fn heading(
     place: Place,
     groups: &[FormalGroup],
     of_result: Option<&Name>,
-) -> Result<(), TypeFault>
+) -> Typed<()>
     ensures { TypingTakes (heading_of number place groups.now (name_of_result of_result.entry) typer.old) result
         typer.new }
 {
@@ -119,7 +113,7 @@ fn heading(
 }
 
 // The types of groups of formal parameters.
-fn group_types(typer: &mut Typer, groups: &[FormalGroup]) -> Result<Vec<TypeId>, TypeFault>
+fn group_types(typer: &mut Typer, groups: &[FormalGroup]) -> Typed<Vec<TypeId>>
     ensures { Makes (λ ids. ids.items) (λ ids. []) (spec.group_types groups.now typer.old) result typer.new }
 {
     let mut types = Vec::with_capacity(typer.alloc, groups.len())?;
@@ -130,7 +124,7 @@ fn group_types(typer: &mut Typer, groups: &[FormalGroup]) -> Result<Vec<TypeId>,
 }
 
 // The type of a result, if there is one.
-fn type_of_result(typer: &mut Typer, of_result: Option<&Name>) -> Result<Option<TypeId>, TypeFault>
+fn type_of_result(typer: &mut Typer, of_result: Option<&Name>) -> Typed<Option<TypeId>>
     ensures { TypingTakes (spec.type_of_result (name_of_result of_result.entry) typer.old) result typer.new }
 {
     match of_result {
@@ -141,7 +135,7 @@ fn type_of_result(typer: &mut Typer, of_result: Option<&Name>) -> Result<Option<
 
 // The type of a result is ordinal: K1 at its name where it isn't.
 #[tactic(auto, unfolding(typing::specs::Routines::result_type))]
-fn result_type(typer: &mut Typer, name: &Name) -> Result<TypeId, TypeFault>
+fn result_type(typer: &mut Typer, name: &Name) -> Typed<TypeId>
     ensures { TypingTakes (spec.result_type name.now typer.old) result typer.new }
 {
     let id = typer.type_of_name(name)?;
@@ -159,7 +153,7 @@ fn heading_inside(
     groups: &[FormalGroup],
     types: &[TypeId],
     result_id: Option<TypeId>,
-) -> Result<(), TypeFault>
+) -> Typed<()>
     ensures { TypingTakes (heading_inside number place groups.now types.now result_id typer.old) result typer.new }
 {
     let cells = typer.begin_heading();
@@ -176,7 +170,7 @@ fn parameters(
     number: u32,
     groups: &[FormalGroup],
     types: &[TypeId],
-) -> Result<Vec<u32>, TypeFault>
+) -> Typed<Vec<u32>>
     requires known { AreKnown (flat_map formal_names groups.now) typer.old.regions }
     ensures { Makes (λ roots. roots.items) (λ roots. []) (spec.parameters number groups.now types.now typer.old) result
         typer.new }
@@ -197,7 +191,7 @@ fn parameters_named(
     kind: VariableKind,
     type_id: TypeId,
     names: &[Name],
-) -> Result<Vec<u32>, TypeFault>
+) -> Typed<Vec<u32>>
     requires known { AreKnown names.now typer.old.regions }
     ensures { Makes (λ roots. roots.items) (λ roots. []) (spec.parameters_named number kind type_id names.now typer.old)
         result typer.new }

@@ -3,14 +3,17 @@
 //! the order of the text.
 #![tactic(auto)]
 
-mod constants;
+mod definitions;
 mod denoters;
 mod headings;
 mod names;
 mod parameters;
 mod program;
-mod type_definitions;
-mod variables;
 
+pub use definitions::declare;
 pub use headings::{BegunRoutine, begin_routine};
-pub use program::{begin_block, begin_program, declare};
+pub use program::{begin_block, begin_program};
+use typed_tree::TypeFault;
+
+/// What was typed, or the first rule of names and types that is broken, with its place.
+pub type Typed<T> = Result<T, TypeFault>;

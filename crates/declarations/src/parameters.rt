@@ -6,13 +6,14 @@ ghost use Rattle.typing.specs.Passing.{each};
 ghost use Rattle.typing.specs.Typing as spec;
 ghost use Rattle.declarations.specs.Known.{AreKnown};
 
+use crate::Typed;
 use scopes::{Denotation, File};
 use syntax_tree::Name;
 use typed_tree::TypeFault;
 use typing::{Typer, folded};
 
 /// Passes the program parameters, in the order of the text.
-pub(crate) fn declare_parameters(typer: &mut Typer, names: &[Name]) -> Result<(), TypeFault>
+pub(crate) fn declare_parameters(typer: &mut Typer, names: &[Name]) -> Typed<()>
     requires known { AreKnown names.now typer.old.regions }
     ensures { TypingTakes (each spec.parameter_of_program names.now typer.old) result typer.new }
 {
@@ -24,7 +25,7 @@ pub(crate) fn declare_parameters(typer: &mut Typer, names: &[Name]) -> Result<()
 
 // A program parameter: files alone may be (K8), each of them once (S1).
 #[tactic(auto, unfolding(typing::specs::Typing::parameter_of_program))]
-fn declare_parameter(typer: &mut Typer, name: &Name) -> Result<(), TypeFault>
+fn declare_parameter(typer: &mut Typer, name: &Name) -> Typed<()>
     requires known { Knows typer.old.regions (folded name.now.text.now) }
     ensures { TypingTakes (spec.parameter_of_program name.now typer.old) result typer.new }
 {

@@ -5,22 +5,19 @@ ghost use Rattle.typing.specs.Outcomes.{TypingTakes, IsFault};
 ghost use Rattle.typing.specs.Passing.{after};
 ghost use Rattle.typing.specs.Routines.{typed_block};
 ghost use Rattle.typing.specs.Typing.{parameters_of_program};
-ghost use Rattle.declarations.specs.Parts.{block_declarations, declared};
+ghost use Rattle.declarations.specs.Parts.{declared};
 ghost use Rattle.declarations.specs.Known.{AreKnown};
 
-use crate::constants::declare_constants;
+use crate::Typed;
 use crate::names::{block_names, program_names};
 use crate::parameters::declare_parameters;
-use crate::type_definitions::declare_types;
-use crate::variables::declare_groups;
 use std::alloc::Global;
 use syntax_tree::{Block, Program};
-use typed_tree::TypeFault;
 use typing::{BegunBlock, Typer};
 
 /// What is known behind the parameters of a program, where its block begins, or the first rule that they break, with
 /// its place (S1, K8). Its region knows the names that its block defines.
-pub fn begin_program(alloc: Global, program: &Program) -> Result<Typer, TypeFault>
+pub fn begin_program(alloc: Global, program: &Program) -> Typed<Typer>
     ensures passed { IfOk result (λ typer. declared program.now ≡ Ok (after tt [] typer)) }
     ensures known { IfOk result (λ typer. AreKnown (typed_block program.now.block).names typer.regions) }
     ensures refused { IfErr result (λ why. IsFault (declared program.now) why) }
@@ -32,7 +29,7 @@ pub fn begin_program(alloc: Global, program: &Program) -> Result<Typer, TypeFaul
 
 // Passes the parameters, with the region of the required identifiers round them.
 #[tactic(auto, unfolding(typing::specs::Typing::parameters_of_program))]
-fn begin(typer: &mut Typer, program: &Program) -> Result<(), TypeFault>
+fn begin(typer: &mut Typer, program: &Program) -> Typed<()>
     ensures passed { TypingTakes (parameters_of_program program.now (typed_block program.now.block) typer.old)
         result typer.new }
     ensures known { IfOk result (λ _. AreKnown (typed_block program.now.block).names typer.new.regions) }
@@ -44,22 +41,11 @@ fn begin(typer: &mut Typer, program: &Program) -> Result<(), TypeFault>
 }
 
 /// Begins the block of a routine, behind its heading; its region knows the names that it defines.
-pub fn begin_block(typer: &mut Typer, number: u32, block: &Block) -> Result<BegunBlock, TypeFault>
+pub fn begin_block(typer: &mut Typer, number: u32, block: &Block) -> Typed<BegunBlock>
     ensures begun { BeginsBlock (block_begins number (all_folded (typed_block block.now).names) typer.old) result
         typer.new }
     ensures known { IfOk result (λ _. AreKnown (typed_block block.now).names typer.new.regions) }
 {
     let names = block_names(typer.alloc, block)?;
     typer.begin_block(number, &names)
-}
-
-/// Passes the constants, the types and the variables of a block, in the order of the text, or tells the first rule that
-/// they break, with its place (S1 to S3, K1, Y1, Y2, Y3).
-pub fn declare(typer: &mut Typer, block: &Block) -> Result<(), TypeFault>
-    requires known { AreKnown (typed_block block.now).names typer.old.regions }
-    ensures { TypingTakes (block_declarations block.now typer.old) result typer.new }
-{
-    declare_constants(typer, &block.constants)?;
-    declare_types(typer, &block.types)?;
-    declare_groups(typer, &block.variables)
 }

@@ -24,10 +24,8 @@ use std::{env, fs};
 pub fn words(rt: &HostRuntime, name: CommandName) -> Result<Vec<String>, WordsFault> {
     match env::args(rt) {
         Ok(given) => Ok(given.collect::<Vec<String>>(rt.alloc())?),
-        Err(error) => match error.kind() {
-            ErrorKind::OutOfMemory => Err(AllocError.into()),
-            _ => Err(WordsFault::Words(not_utf8(rt.alloc(), name)?)),
-        },
+        Err(error) if error.kind() == ErrorKind::OutOfMemory => Err(AllocError.into()),
+        Err(_) => Err(WordsFault::Words(not_utf8(rt.alloc(), name)?)),
     }
 }
 
@@ -61,12 +59,9 @@ impl Outside for System<'_> {
     }
 
     fn tell(&mut self, parts: &[&[u8]]) -> bool {
-        for part in parts {
-            if !put(part, &mut Counted::new(self.rt.stderr())) {
-                return false;
-            }
-        }
-        true
+        parts
+            .iter()
+            .all(|part| put(part, &mut Counted::new(self.rt.stderr())))
     }
 
     fn run(

@@ -29,22 +29,18 @@ pub(crate) fn write(rt: &HostRuntime, path: &str, text: &[u8]) -> io::Result<()>
         Ok(found) if leads_to(rt, STANDARD_ERROR, &found) => rt.stderr().write_all(text),
         Ok(found) if found.is_file() => write_over(rt, path, &found, text),
         Ok(_) => fs::write(rt, path, text),
-        Err(error) => match error.kind() {
-            ErrorKind::NotFound => {
-                let target = behind_links(rt, path)?;
-                replace(rt, target.as_path(), None, text)
-            }
-            _ => Err(error),
-        },
+        Err(error) if error.kind() == ErrorKind::NotFound => {
+            let target = behind_links(rt, path)?;
+            replace(rt, target.as_path(), None, text)
+        }
+        Err(error) => Err(error),
     }
 }
 
 /// Whether a path leads to a file that was found by another.
 fn leads_to(rt: &HostRuntime, path: &str, found: &Metadata) -> bool {
-    match fs::metadata(rt, path) {
-        Ok(there) => there.dev() == found.dev() && there.ino() == found.ino(),
-        Err(_) => false,
-    }
+    fs::metadata(rt, path).is_ok_and(|there| there.dev() == found.dev()
+        && there.ino() == found.ino())
 }
 
 /// Writes a text to a file in the place of what it held.
@@ -65,12 +61,10 @@ fn behind_links(rt: &HostRuntime, path: &str) -> io::Result<PathBuf> {
     for _ in 0..LINKS {
         match fs::read_link(rt, target.as_path()) {
             Ok(next) => target.set_file_name(next.as_path().as_str())?,
-            Err(error) => {
-                return match error.kind() {
-                    ErrorKind::InvalidInput | ErrorKind::NotFound => Ok(target),
-                    _ => Err(error),
-                };
-            }
+            Err(error) => match error.kind() {
+                ErrorKind::InvalidInput | ErrorKind::NotFound => return Ok(target),
+                _ => return Err(error),
+            },
         }
     }
     Err(Error::from(ErrorKind::NotFound))
@@ -84,10 +78,7 @@ fn replace(
     text: &[u8],
 ) -> io::Result<()> {
     let (name, file) = beside(rt, path)?;
-    let moved = match fill(file, old, text) {
-        Ok(()) => fs::rename(rt, name.as_path(), path),
-        Err(error) => Err(error),
-    };
+    let moved = fill(file, old, text).and_then(|()| fs::rename(rt, name.as_path(), path));
     if moved.is_err() {
         let _removed = fs::remove_file(rt, name.as_path());
     }
@@ -101,11 +92,8 @@ fn beside(rt: &HostRuntime, path: Path<'_>) -> io::Result<(PathBuf, File)> {
         let name = path.with_file_name(rt.alloc(), name.as_str())?;
         match File::create_new(rt, name.as_path()) {
             Ok(file) => return Ok((name, file)),
-            Err(error) => {
-                if error.kind() != ErrorKind::AlreadyExists {
-                    return Err(error);
-                }
-            }
+            Err(error) if error.kind() == ErrorKind::AlreadyExists => {}
+            Err(error) => return Err(error),
         }
     }
     Err(Error::from(ErrorKind::AlreadyExists))
@@ -113,8 +101,7 @@ fn beside(rt: &HostRuntime, path: Path<'_>) -> io::Result<(PathBuf, File)> {
 
 /// Writes a text to a file, which gets the rights of an old one, and its owner and group where the system lets it. It
 /// is on the disk then.
-fn fill(file: File, old: Option<&Metadata>, text: &[u8]) -> io::Result<()> {
-    let mut file = file;
+fn fill(mut file: File, old: Option<&Metadata>, text: &[u8]) -> io::Result<()> {
     if let Some(old) = old {
         let _grouped = fchown(&file, None, Some(old.gid()));
         let _owned = fchown(&file, Some(old.uid()), None);

@@ -8,10 +8,11 @@ mod prepared;
 mod ready;
 mod running;
 mod telling;
-pub mod text;
+mod words;
 
 pub use command_line::{CommandName, WordsFault};
 pub use outside::Outside;
-pub use report_text::fault;
+pub use report_text::{fault, text};
 pub use running::go;
-pub use telling::untaken;
+pub use telling::{cannot_read, refuse, untaken};
+pub use words::run_program;

@@ -9,7 +9,7 @@ ghost use Rattle.report.specs.Whole.{IsCompiled};
 use crate::compile::{Compiled, compile};
 use crate::ready::Ready;
 use crate::telling::{cannot_write, run_code, write_to};
-use crate::text::lines;
+use crate::text::open_lines;
 use analyser::trimming::trimmed;
 use command_line::PcomWords;
 use outside::Outside;
@@ -50,7 +50,7 @@ pub(crate) fn prepare(
     ensures refused { IfErr result (IsRefusal source.now (given certificate.entry)) }
 {
     let compiled = compiled(alloc, source, certificate, words.write_cert.is_some())?;
-    let report = lines(alloc, &compiled.verdict)?;
+    let report = open_lines(alloc, &compiled.verdict.open_sites)?;
     let certificate = certificate_for(alloc, words.write_cert, &compiled)?;
     let chosen = chosen(&compiled, words.keep_checks);
     let code = code_for(alloc, words.code, chosen)?;

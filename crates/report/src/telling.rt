@@ -29,7 +29,7 @@ pub fn untaken<O: Outside>(alloc: Global, fault: WordsFault, outside: &mut O) ->
 }
 
 /// Tells that the file of a path can't be read, and gives the status.
-pub(crate) fn cannot_read<O: Outside>(path: &str, outside: &mut O) -> u8
+pub fn cannot_read<O: Outside>(path: &str, outside: &mut O) -> u8
     ensures { CourseGoes (O.acts outside.old) (O.acts outside.new) result
         (ends_with (unreadable_line path.now) file_status) }
 {
@@ -47,7 +47,7 @@ pub(crate) fn cannot_write<O: Outside>(path: &str, outside: &mut O) -> u8
 }
 
 /// Tells why something is refused, and gives the status.
-pub(crate) fn refuse<O: Outside>(alloc: Global, fault: &Fault, outside: &mut O) -> u8
+pub fn refuse<O: Outside>(alloc: Global, fault: &Fault, outside: &mut O) -> u8
     ensures { CourseGoes (O.acts outside.old) (O.acts outside.new) result
         (ends_with (refusal_line (refusal_of fault.now)) (refusal_status (refusal_of fault.now))) }
 {
@@ -67,13 +67,9 @@ pub(crate) fn write_to<'a, O: Outside>(
 ) -> Result<(), &'a str>
     ensures { HasWritten (given path.entry) text.now (O.acts outside.old) (O.acts outside.new) result }
 {
-    let Some(path) = path else {
-        return Ok(());
-    };
-    if outside.write_file(path, text) {
-        Ok(())
-    } else {
-        Err(path)
+    match path {
+        Some(path) if !outside.write_file(path, text) => Err(path),
+        _ => Ok(()),
     }
 }
 

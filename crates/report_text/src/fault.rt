@@ -94,9 +94,7 @@ impl From<CheckFault> for Fault {
     fn from(fault: CheckFault) -> Fault {
         match fault {
             CheckFault::Memory(refused) => Fault::Memory(refused),
-            CheckFault::TooLarge | CheckFault::Foreign | CheckFault::Broken { .. } => {
-                Fault::Check(fault)
-            }
+            _ => Fault::Check(fault),
         }
     }
 }
@@ -107,7 +105,7 @@ impl From<GenFault> for Fault {
     fn from(fault: GenFault) -> Fault {
         match fault {
             GenFault::Memory(refused) => Fault::Memory(refused),
-            GenFault::TooLarge => Fault::Generate(fault),
+            _ => Fault::Generate(fault),
         }
     }
 }
@@ -118,7 +116,7 @@ impl From<AsmFault> for Fault {
     fn from(fault: AsmFault) -> Fault {
         match fault {
             AsmFault::Memory(refused) => Fault::Memory(refused),
-            AsmFault::Refused { .. } => Fault::Code(fault),
+            _ => Fault::Code(fault),
         }
     }
 }

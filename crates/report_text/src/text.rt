@@ -4,8 +4,7 @@ ghost use Rattle.report_text.specs.declared.text.TheConstants.{LINE_SIZE};
 ghost use Rattle.report_text.specs.Text.{name_size, number_size, place_text, open_line, refusal_of, refusal_line};
 ghost use Rattle.report_text.specs.Text.{refusal_status, stop_line, stop_status, error_name, input_name, machine_text};
 ghost use Rattle.report_text.specs.Text.{code_text, line_refusal};
-ghost use Rattle.report_text.specs.Text.{at_or_memory, typing_refusal, certificate_refusal};
-ghost use Rattle.report_text.specs.Text.{assembler_refusal, checker_refusal, generator_refusal};
+ghost use Rattle.report_text.specs.Text.{at_or_memory, certificate_refusal};
 
 use crate::fault::Fault;
 use certificate::ReadFault;
@@ -18,7 +17,7 @@ use smallvec::SmallVec;
 use stack_machine::{MachineFault, Stop};
 use std::alloc::{AllocError, Global};
 use text_input::InputFault;
-use typed_tree::{Site, SiteKind, TypeFault};
+use typed_tree::{Site, SiteKind};
 
 /// How many bytes a line takes at most.
 pub const LINE_SIZE: usize = 96;
@@ -115,15 +114,29 @@ pub enum Refusal {
 pub fn refusal_told(fault: &Fault) -> Refusal
     ensures { result ≡ refusal_of fault.now }
 {
-    match fault {
-        Fault::Memory(_) => Refusal::Memory,
+    match *fault {
+        Fault::Memory(_)
+        | Fault::Check(CheckFault::Memory(_))
+        | Fault::Generate(GenFault::Memory(_))
+        | Fault::Code(AsmFault::Memory(_)) => Refusal::Memory,
         Fault::Lex(fault) => at_or_memory(fault.place(), b'L', fault.number()),
         Fault::Parse(fault) => at_or_memory(fault.place(), b'P', fault.number()),
-        Fault::Typing(fault) => typing_refusal(*fault),
-        Fault::Certificate(fault) => certificate_refusal(*fault),
-        Fault::Check(fault) => checker_refusal(*fault),
-        Fault::Generate(fault) => generator_refusal(*fault),
-        Fault::Code(fault) => assembler_refusal(*fault),
+        Fault::Typing(fault) => {
+            let (letter, number) = fault.code();
+            at_or_memory(fault.place(), letter, number)
+        }
+        Fault::Certificate(fault) => certificate_refusal(fault),
+        Fault::Check(CheckFault::TooLarge) => Refusal::Whole(code_of(b'K', 10)),
+        Fault::Check(CheckFault::Foreign) => Refusal::Claims(code_of(b'C', 1)),
+        Fault::Check(CheckFault::Broken { rule, place }) => {
+            let code = code_of(b'C', rule.number());
+            Refusal::Claim { place, code }
+        }
+        Fault::Generate(GenFault::TooLarge) => Refusal::Whole(code_of(b'G', 1)),
+        Fault::Code(AsmFault::Refused { rule, line }) => {
+            let code = code_of(b'A', rule.number());
+            Refusal::Code { line, code }
+        }
     }
 }
 
@@ -144,13 +157,7 @@ fn at_or_memory(place: Option<Place>, letter: u8, number: u8) -> Refusal
     }
 }
 
-fn typing_refusal(fault: TypeFault) -> Refusal
-    ensures { result ≡ typing_refusal fault }
-{
-    let (letter, number) = fault.code();
-    at_or_memory(fault.place(), letter, number)
-}
-
+// A rule that is broken at a line of a certificate; want of memory, where there is none.
 fn certificate_refusal(fault: ReadFault) -> Refusal
     ensures { result ≡ certificate_refusal fault }
 {
@@ -158,41 +165,6 @@ fn certificate_refusal(fault: ReadFault) -> Refusal
     match fault.line() {
         None => Refusal::Memory,
         Some(line) => Refusal::Certificate { line, code },
-    }
-}
-
-fn checker_refusal(fault: CheckFault) -> Refusal
-    ensures { result ≡ checker_refusal fault }
-{
-    match fault {
-        CheckFault::Memory(_) => Refusal::Memory,
-        CheckFault::TooLarge => Refusal::Whole(code_of(b'K', 10)),
-        CheckFault::Foreign => Refusal::Claims(code_of(b'C', 1)),
-        CheckFault::Broken { rule, place } => {
-            let code = code_of(b'C', rule.number());
-            Refusal::Claim { place, code }
-        }
-    }
-}
-
-fn generator_refusal(fault: GenFault) -> Refusal
-    ensures { result ≡ generator_refusal fault }
-{
-    match fault {
-        GenFault::Memory(_) => Refusal::Memory,
-        GenFault::TooLarge => Refusal::Whole(code_of(b'G', 1)),
-    }
-}
-
-fn assembler_refusal(fault: AsmFault) -> Refusal
-    ensures { result ≡ assembler_refusal fault }
-{
-    match fault {
-        AsmFault::Memory(_) => Refusal::Memory,
-        AsmFault::Refused { rule, line } => {
-            let code = code_of(b'A', rule.number());
-            Refusal::Code { line, code }
-        }
     }
 }
 

@@ -8,7 +8,7 @@ use meaning::Ending;
 use parser::parse;
 use report::compile::compile;
 use report::fault::Fault;
-use report::text::lines;
+use report::text::open_lines;
 use resolver::resolve;
 use scopes::{Denotation, ScopeFault, Scopes};
 use std::alloc::{AllocError, Global};
@@ -150,7 +150,7 @@ fn a_source_is_compiled_by_a_second_call(rt: HostRuntime) -> Result<(), Fail> {
         Err(Fault::Memory(_)) => compile(alloc, SOURCE, None),
         first => first,
     }?;
-    let told = lines(alloc, &compiled.verdict)?;
+    let told = open_lines(alloc, &compiled.verdict.open_sites)?;
     assert!(rt; told.as_slice() == b"1:58: possible error: overflow\n".as_slice());
     Ok(())
 }

@@ -1,6 +1,8 @@
 use crate::shown::text_of;
 use crate::stage::Stage;
+use report::compile::compile;
 use report::pcom::pcom;
+use report::{cannot_read, refuse, run_program};
 use std::alloc::Global;
 use std::test::Fail;
 use test_words::rows::all_hold;
@@ -99,4 +101,30 @@ fn acts_told(alloc: Global, words: &&[&str]) -> Result<String, Fail> {
 #[test]
 fn acts_come_in_their_order(rt: HostRuntime) -> Result<(), Fail> {
     all_hold(rt.alloc(), &ACTS, acts_told)
+}
+
+#[test]
+fn programs_end_with_a_line(rt: HostRuntime) -> Result<(), Fail> {
+    let alloc = rt.alloc();
+    let (name, path) = (
+        String::from_str(alloc, "pcom")?,
+        String::from_str(alloc, "no.pas")?,
+    );
+    let words = vec![in alloc; name, path]?;
+    let mut stage = Stage::new(alloc, &[], Vec::new(alloc), Vec::new(alloc));
+    let Err(fault) = compile(alloc, b"begin", None) else {
+        return Err(Fail::new("it is no program"));
+    };
+    let statuses = [
+        run_program(alloc, Ok(words), pcom, &mut stage),
+        cannot_read("no.cert", &mut stage),
+        refuse(alloc, &fault, &mut stage),
+    ];
+    let (first, last) = (b"no memory\n", b"\nno memory\n");
+    if stage.is_refused || stage.errors.starts_with(first) || stage.errors.ends_with(last) {
+        return Err(Fail::new("no memory"));
+    }
+    let told = "cannot read no.pas\ncannot read no.cert\n1:1: refused P1\n";
+    assert!(rt; stage.errors.as_slice() == told.as_bytes() && statuses == [3, 3, 2]);
+    Ok(())
 }

@@ -10,7 +10,7 @@ use pcode_assembler::Code;
 use report::compile::compile;
 use report::fault::Fault;
 use report::go;
-use report::text::{fault_text, lines, stop_text};
+use report::text::{fault_text, open_lines, stop_text};
 use stack_machine::bytes::Counted;
 use stack_machine::{Machine, Stop};
 use std::alloc::{AllocError, Global};
@@ -131,7 +131,7 @@ pub(crate) fn stop_told(alloc: Global, stop: &Stop) -> Result<String, AllocError
 
 // The lines of the open sites, the output, and the line and the status of the stop, with bars between them.
 pub(crate) fn shown_told(alloc: Global, shown: &Shown) -> Result<String, AllocError> {
-    let sites = lines(alloc, &shown.verdict)?;
+    let sites = open_lines(alloc, &shown.verdict.open_sites)?;
     let stop = stop_told(alloc, &shown.stop)?;
     format!(in alloc; "{}|{}|{stop}", text_of(&sites), text_of(&shown.output))
 }

@@ -9,11 +9,12 @@ ghost use Rattle.typing.specs.View.{denoted_of};
 ghost use Rattle.resolver.specs.Made.{MakesStmt, MakesTarget, result_variable};
 
 use crate::owned::made_beside;
+use declarations::Typed;
 use expression_resolver::{Reached, copied, fitted, reach};
 use place::Place;
 use scopes::Denotation;
 use syntax_tree as syntax;
-use typed_tree::{Assignment, Base, Copying, Fitted, Stmt, TypeFault};
+use typed_tree::{Assignment, Base, Copying, Fitted, Stmt};
 use typing::{DenotedVariable, Typer};
 use typing_rules::as_routine;
 
@@ -26,7 +27,7 @@ pub(crate) fn assignment(
     indexes: &[syntax::Expr],
     becomes: Place,
     value: &syntax::Expr,
-) -> Result<Stmt, TypeFault>
+) -> Typed<Stmt>
     ensures made { MakesStmt (spec.assignment name.now selectors.now (map expression indexes.now) becomes
         (expression value.now) typer.old) result typer.new }
     ensures held { IfOk result (λ made. is_held_stmt made ≡ true) }
@@ -66,7 +67,7 @@ fn target(
     name: &syntax::Name,
     selectors: &[syntax::Selector],
     indexes: &[syntax::Expr],
-) -> Result<Reached, TypeFault>
+) -> Typed<Reached>
     ensures { MakesTarget (spec.target name.now selectors.now (map expression indexes.now) typer.old) result typer.new }
 {
     let denotation = typer.find(name)?;
@@ -82,7 +83,7 @@ fn target_of(
     selectors: &[syntax::Selector],
     place: Place,
     denotation: Denotation,
-) -> Result<DenotedVariable, TypeFault>
+) -> Typed<DenotedVariable>
     ensures made { Makes denoted_of (λ variable. [])
         (spec.target_of (as_routine denotation) selectors.now place denotation typer.old) result typer.new }
     ensures plain { IfOk result (λ variable. index_count variable.selectors.items ≡ 0) }
@@ -97,7 +98,7 @@ fn target_of(
 }
 
 // The result of a function, whose block this is.
-fn result_of(typer: &mut Typer, place: Place, block: u32) -> Result<DenotedVariable, TypeFault>
+fn result_of(typer: &mut Typer, place: Place, block: u32) -> Typed<DenotedVariable>
     ensures made { Makes denoted_of (λ variable. []) (result_variable place block typer.old) result typer.new }
     ensures plain { IfOk result (λ variable. index_count variable.selectors.items ≡ 0) }
 {

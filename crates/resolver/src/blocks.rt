@@ -11,7 +11,7 @@ ghost use Rattle.resolver.specs.Made.{EndsRoutine, MakesBlocks, MakesBody, Makes
 
 use crate::statements::compound;
 use crate::typed::MadeBlock;
-use declarations::{BegunRoutine, begin_block, begin_routine, declare};
+use declarations::{BegunRoutine, Typed, begin_block, begin_routine, declare};
 use place::Place;
 use syntax_tree as syntax;
 use syntax_tree::{Name, Routine};
@@ -24,7 +24,7 @@ pub(crate) fn body(
     typer: &mut Typer,
     made: &mut Vec<MadeBlock>,
     written: &syntax::Block,
-) -> Result<Stmt, TypeFault>
+) -> Typed<Stmt>
     requires known { AreKnown (typed_block written.now).names typer.old.regions }
     ensures made { MakesBody made.old.items made.new.items ((typed_block written.now).typing typer.old) result
         typer.new }
@@ -43,7 +43,7 @@ fn statement_part(
     typer: &mut Typer,
     made: &mut Vec<MadeBlock>,
     written: &[syntax::Stmt],
-) -> Result<Stmt, TypeFault>
+) -> Typed<Stmt>
     ensures made { MakesStmt (statement_part written.now typer.old) result typer.new }
     ensures held { IfOk result (λ body. is_held_stmt body ≡ true) }
     ensures room { IfOk result (λ body. vec_len made.new < vec_capacity made.new) }
@@ -56,11 +56,7 @@ fn statement_part(
 
 // Procedures and functions, one after another.
 #[cycle(blocks)]
-fn routines(
-    typer: &mut Typer,
-    made: &mut Vec<MadeBlock>,
-    written: &[Routine],
-) -> Result<(), TypeFault>
+fn routines(typer: &mut Typer, made: &mut Vec<MadeBlock>, written: &[Routine]) -> Typed<()>
     requires known { AreKnownRoutines written.now typer.old.regions }
     ensures made { MakesBlocks made.old.items made.new.items
         (each (λ r. r.typing) (map typed_routine written.now) typer.old) result typer.new }
@@ -74,7 +70,7 @@ fn routines(
 
 // A procedure or a function: its heading, and then its block or the directive forward (6.6.1, 6.6.2).
 #[cycle(blocks)]
-fn routine(typer: &mut Typer, made: &mut Vec<MadeBlock>, written: &Routine) -> Result<(), TypeFault>
+fn routine(typer: &mut Typer, made: &mut Vec<MadeBlock>, written: &Routine) -> Typed<()>
     requires known { AreKnown (heading_names (out-Routine written.now).heading) typer.old.regions }
     ensures made { MakesBlocks made.old.items made.new.items ((typed_routine written.now).typing typer.old) result
         typer.new }
@@ -92,7 +88,7 @@ fn routine(typer: &mut Typer, made: &mut Vec<MadeBlock>, written: &Routine) -> R
 }
 
 // The directive forward stands behind the first heading alone: else the name is declared twice (S1).
-fn forward(typer: &mut Typer, begun: BegunRoutine, place: Place) -> Result<(), TypeFault>
+fn forward(typer: &mut Typer, begun: BegunRoutine, place: Place) -> Typed<()>
     ensures { TypingTakes (spec.forward begun.is_first begun.number place typer.old) result typer.new }
 {
     if !begun.is_first {
@@ -109,7 +105,7 @@ fn routine_block(
     written: &syntax::Block,
     number: u32,
     name: &Name,
-) -> Result<(), TypeFault>
+) -> Typed<()>
     ensures made { MakesBlocks made.old.items made.new.items
         (spec.routine_block number name.now (typed_block written.now) typer.old) result typer.new }
     ensures held { are_held_made made.old.items ≡ true → are_held_made made.new.items ≡ true }
@@ -129,7 +125,7 @@ fn end_routine(
     body: Stmt,
     name: Place,
     end: Place,
-) -> Result<(), TypeFault>
+) -> Typed<()>
     requires held { is_held_stmt body ≡ true }
     requires room { vec_len made.old < vec_capacity made.old }
     ensures made { EndsRoutine number begun body name end made.old.items made.new.items typer.old result typer.new }

@@ -15,6 +15,7 @@ ghost use Rattle.resolver.specs.Made.{MakesActuals, IsWrittenAs};
 
 use crate::owned::made_beside;
 use crate::reading::read;
+use declarations::Typed;
 use expression_resolver::{TypedExpr, expression, first_place, named_file, routine_call};
 use place::Place;
 use scopes::{Denotation, File, RequiredProcedure};
@@ -32,7 +33,7 @@ pub(crate) fn procedure_call(
     typer: &mut Typer,
     name: &syntax::Name,
     actuals: &[syntax::Actual],
-) -> Result<Stmt, TypeFault>
+) -> Typed<Stmt>
     ensures made { MakesStmt (spec.procedure_call name.now (map written_actual actuals.now) typer.old) result
         typer.new }
     ensures held { IfOk result (λ made. is_held_stmt made ≡ true) }
@@ -51,7 +52,7 @@ fn required_call(
     denotation: Denotation,
     name: &syntax::Name,
     actuals: &[syntax::Actual],
-) -> Result<Stmt, TypeFault>
+) -> Typed<Stmt>
     ensures made { MakesStmt (spec.required_call denotation name.now (map written_actual actuals.now) typer.old) result
         typer.new }
     ensures held { IfOk result (λ made. is_held_stmt made ≡ true) }
@@ -72,7 +73,7 @@ fn declared_call(
     is_function: bool,
     name: &syntax::Name,
     actuals: &[syntax::Actual],
-) -> Result<Stmt, TypeFault>
+) -> Typed<Stmt>
     ensures made { MakesStmt (spec.declared_call callee is_function name.now (map written_actual actuals.now)
         typer.old) result typer.new }
     ensures held { IfOk result (λ made. is_held_stmt made ≡ true) }
@@ -94,7 +95,7 @@ fn write(
     name: &syntax::Name,
     actuals: &[syntax::Actual],
     procedure: RequiredProcedure,
-) -> Result<Stmt, TypeFault>
+) -> Typed<Stmt>
     ensures made { MakesStmt (spec.write name.now (map written_actual actuals.now) procedure typer.old) result
         typer.new }
     ensures held { IfOk result (λ made. is_held_stmt made ≡ true) }
@@ -117,7 +118,7 @@ pub(crate) fn parameters_of<'e, 'a>(
     place: Place,
     procedure: RequiredProcedure,
     actuals: &'e [syntax::Actual<'a>],
-) -> Result<&'e [syntax::Actual<'a>], TypeFault>
+) -> Typed<&'e [syntax::Actual<'a>]>
     ensures { MakesActuals (spec.parameters_of place procedure (map written_actual actuals.now) typer.old) result
         typer.new }
 {
@@ -131,7 +132,7 @@ fn has_parameters(
     place: Place,
     procedure: RequiredProcedure,
     parameters: &[syntax::Actual],
-) -> Result<(), TypeFault>
+) -> Typed<()>
     ensures { result ≡ spec.has_parameters place procedure (map written_actual parameters.now) }
 {
     if parameters.is_empty() && !procedure.ends_line {
@@ -147,7 +148,7 @@ fn without_file<'e, 'a>(
     wanted: File,
     place: Place,
     actuals: &'e [syntax::Actual<'a>],
-) -> Result<&'e [syntax::Actual<'a>], TypeFault>
+) -> Typed<&'e [syntax::Actual<'a>]>
     ensures { MakesActuals (spec.without_file wanted place (map written_actual actuals.now) typer.old) result
         typer.new }
 {
@@ -169,10 +170,7 @@ fn without_file<'e, 'a>(
 }
 
 // Values that are written, one after another.
-fn parameters(
-    typer: &mut Typer,
-    values: &[syntax::Actual],
-) -> Result<Vec<WriteParameter>, TypeFault>
+fn parameters(typer: &mut Typer, values: &[syntax::Actual]) -> Typed<Vec<WriteParameter>>
     ensures made { MakesParameters (each spec.parameter (map written_actual values.now) typer.old) result typer.new }
     ensures held { IfOk result (λ made. all_hold (map is_held_parameter made.items) ≡ true) }
 {
@@ -185,7 +183,7 @@ fn parameters(
 
 // A value that is written, and then its width.
 #[tactic(auto, using(typing::proofs::Written::typing_actual), unfolding(typing::specs::Statements::parameter))]
-fn parameter(typer: &mut Typer, written: &syntax::Actual) -> Result<WriteParameter, TypeFault>
+fn parameter(typer: &mut Typer, written: &syntax::Actual) -> Typed<WriteParameter>
     ensures made { MakesParameter (spec.parameter (written_actual written.now) typer.old) result typer.new }
     ensures held { IfOk result (λ made. is_held_parameter made ≡ true) }
 {
@@ -197,7 +195,7 @@ fn parameter(typer: &mut Typer, written: &syntax::Actual) -> Result<WriteParamet
 }
 
 // What is written: an ordinal, as its type wants it, or a string.
-fn written_value(typer: &Typer, made: TypedExpr, place: Place) -> Result<Written, TypeFault>
+fn written_value(typer: &Typer, made: TypedExpr, place: Place) -> Typed<Written>
     ensures made { MatchResult result
         (IsWrittenAs (spec.written_as typer.now.types (typed_of made)) (look_value made.value))
         (λ why. (spec.written_as typer.now.types (typed_of made) ≡ None) × (why ≡ Mismatch place)) }
@@ -218,12 +216,7 @@ fn written_value(typer: &Typer, made: TypedExpr, place: Place) -> Result<Written
 }
 
 // An ordinal of a type that is written.
-fn written_ordinal(
-    typer: &Typer,
-    made: TypedExpr,
-    type_id: TypeId,
-    place: Place,
-) -> Result<Written, TypeFault>
+fn written_ordinal(typer: &Typer, made: TypedExpr, type_id: TypeId, place: Place) -> Typed<Written>
     requires ordinal { value_of made.value ≡ Ordinal type_id }
     ensures made { MatchResult result
         (IsWrittenAs (spec.written_as typer.now.types (typed_of made)) (look_value made.value))
@@ -243,7 +236,7 @@ fn written_ordinal(
 
 // The width of a value, if there is one.
 #[tactic(auto, unfolding(typing::specs::Statements::width))]
-fn width(typer: &mut Typer, written: &Option<syntax::Expr>) -> Result<Option<Width>, TypeFault>
+fn width(typer: &mut Typer, written: &Option<syntax::Expr>) -> Typed<Option<Width>>
     ensures made { MakesWidth (spec.width (option_map expression written.now) typer.old) result typer.new }
     ensures held { IfOk result (λ made. is_held_width made ≡ true) }
 {
@@ -255,7 +248,7 @@ fn width(typer: &mut Typer, written: &Option<syntax::Expr>) -> Result<Option<Wid
 
 // A width, which is an integer. Its site is the leading one.
 #[tactic(auto, unfolding(typing::specs::Statements::width))]
-fn total_width(typer: &mut Typer, written: &syntax::Expr) -> Result<Width, TypeFault>
+fn total_width(typer: &mut Typer, written: &syntax::Expr) -> Typed<Width>
     ensures made { MakesOwnWidth (spec.width (Some (expression written.now)) typer.old) result typer.new }
     ensures held { IfOk result (λ made. is_ordinal_expr made.value ≡ true) }
 {
@@ -264,7 +257,7 @@ fn total_width(typer: &mut Typer, written: &syntax::Expr) -> Result<Width, TypeF
 }
 
 // An expression as a width: K1 at its place where it is no integer.
-fn measured(made: TypedExpr, place: Place) -> Result<Width, TypeFault>
+fn measured(made: TypedExpr, place: Place) -> Typed<Width>
     ensures made { MatchResult result
         (λ width. (spec.measured place (typed_of made) ≡ Ok width.site)
         × (look_value made.value ≡ look_expr width.value))

@@ -3,6 +3,7 @@ ghost use Rattle.typing.specs.Outcomes.{TypingTakes};
 ghost use Rattle.typing.specs.Statements as spec;
 ghost use Rattle.resolver.specs.Made.{MakesConstants};
 
+use declarations::Typed;
 use indexmap::IndexSet;
 use syntax_tree::Constant;
 use typed_tree::TypeFault;
@@ -15,7 +16,7 @@ pub(crate) fn constant_row(
     type_id: TypeId,
     written: &[Constant],
     seen: &mut IndexSet<i32>,
-) -> Result<Vec<i32>, TypeFault>
+) -> Typed<Vec<i32>>
     ensures { MakesConstants seen.old.keys seen.new.keys
         (spec.constant_row type_id seen.old.keys [] written.now typer.old) result typer.new }
 {
@@ -33,7 +34,7 @@ fn case_constant(
     type_id: TypeId,
     written: &Constant,
     seen: &mut IndexSet<i32>,
-) -> Result<i32, TypeFault>
+) -> Typed<i32>
     ensures typed { TypingTakes (spec.case_constant type_id seen.old.keys written.now typer.old) result typer.new }
     ensures seen { IfOk result (λ value. seen.new.keys ≡ seen.old.keys ++ value ∷ []) }
 {

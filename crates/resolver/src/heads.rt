@@ -10,6 +10,7 @@ ghost use Rattle.expression_resolver.specs.Values.{AreTestedAlike, tested_as};
 ghost use Rattle.resolver.specs.Made.{MakesBound, MakesStmt, MakesCaseHead, MakesCondition, MakesIfHead, MakesForHead};
 
 use crate::owned::made_beside;
+use declarations::Typed;
 use expression_resolver::{expression, first_place, fitted};
 use place::Place;
 use syntax_tree as syntax;
@@ -20,7 +21,7 @@ use typing_rules::{as_control, ordinal_of, way};
 
 /// An empty statement (6.8.2.1).
 #[tactic(auto, using(typed_tree::proofs::Looks::look_empty, crate::proofs::HeldStatements::held_empty))]
-pub(crate) fn empty(typer: &mut Typer) -> Result<Stmt, TypeFault>
+pub(crate) fn empty(typer: &mut Typer) -> Typed<Stmt>
     ensures made { MakesStmt (enter_as Empty typer.old) result typer.new }
     ensures held { IfOk result (λ made. is_held_stmt made ≡ true) }
 {
@@ -30,11 +31,7 @@ pub(crate) fn empty(typer: &mut Typer) -> Result<Stmt, TypeFault>
 
 /// An if as far as its `then` (6.8.3.4): its number, and its condition.
 #[tactic(auto, unfolding(typing::specs::Statements::tested))]
-pub(crate) fn if_head(
-    typer: &mut Typer,
-    place: Place,
-    tested: &syntax::Expr,
-) -> Result<(u32, Expr), TypeFault>
+pub(crate) fn if_head(typer: &mut Typer, place: Place, tested: &syntax::Expr) -> Typed<(u32, Expr)>
     ensures made { MakesIfHead (spec.tested place (expression tested.now) typer.old) result typer.new }
     ensures held { IfOk result (λ made. is_ordinal_expr made.1 ≡ true) }
 {
@@ -46,7 +43,7 @@ pub(crate) fn if_head(
 
 /// A condition, which is Boolean.
 #[tactic(auto, unfolding(typing::specs::Statements::condition))]
-pub(crate) fn condition(typer: &mut Typer, written: &syntax::Expr) -> Result<Expr, TypeFault>
+pub(crate) fn condition(typer: &mut Typer, written: &syntax::Expr) -> Typed<Expr>
     ensures made { MakesCondition (spec.condition (expression written.now) typer.old) result typer.new }
     ensures held { IfOk result (λ made. is_ordinal_expr made ≡ true) }
 {
@@ -62,7 +59,7 @@ pub(crate) fn for_head(
     first: &syntax::Expr,
     direction: syntax::Direction,
     last: &syntax::Expr,
-) -> Result<ForHead, TypeFault>
+) -> Typed<ForHead>
     ensures made { MakesForHead (spec.for_head place variable.now (expression first.now) direction
         (expression last.now) typer.old) result typer.new }
     ensures first { IfOk result (λ head. is_ordinal_expr head.first.value ≡ true) }
@@ -91,7 +88,7 @@ pub(crate) fn for_head(
 }
 
 // A bound of a for: the site of its test stands before those of its first token.
-fn bound(typer: &mut Typer, type_id: TypeId, written: &syntax::Expr) -> Result<Fitted, TypeFault>
+fn bound(typer: &mut Typer, type_id: TypeId, written: &syntax::Expr) -> Typed<Fitted>
     requires ordinal { tested_as (kind_of typer.old.types type_id) ≡ Ordinal }
     ensures made { (control : ℕ) → MakesBound control (spec.bound control type_id (expression written.now) typer.old)
         result typer.new }
@@ -108,7 +105,7 @@ pub(crate) fn case_head(
     typer: &mut Typer,
     place: Place,
     index: &syntax::Expr,
-) -> Result<(CaseHead, TypeId), TypeFault>
+) -> Typed<(CaseHead, TypeId)>
     ensures made { MakesCaseHead (spec.case_head place (expression index.now) typer.old) result typer.new }
     ensures held { IfOk result (λ made. is_ordinal_expr (made.0).index ≡ true) }
 {

@@ -1,7 +1,7 @@
 ghost use Rattle.resolver.specs.Made.{Boxes};
 
+use declarations::Typed;
 use std::alloc::Global;
-use typed_tree::TypeFault;
 
 /// What was made. Where it was refused the parts that were made before are let go by calls of `drop`, and the fault is
 /// returned: a `?` lets them go itself, which takes four times as long to prove.
@@ -20,10 +20,7 @@ macro_rules! made_beside {
 pub(crate) use made_beside;
 
 /// What was made, in a box.
-pub(crate) fn in_box<T: Drop>(
-    alloc: Global,
-    made: Result<T, TypeFault>,
-) -> Result<Box<T>, TypeFault>
+pub(crate) fn in_box<T: Drop>(alloc: Global, made: Typed<T>) -> Typed<Box<T>>
     ensures { Boxes made result }
 {
     Ok(Box::new(alloc, made?)?)

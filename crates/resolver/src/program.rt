@@ -22,14 +22,14 @@ ghost use Rattle.resolver.specs.Made.{AreArranged, AreLaidBlocks, AreLaidOut, Is
 use crate::blocks::body;
 use crate::table::table_of;
 use crate::typed::{LaidBlocks, MadeBlock};
-use declarations::begin_program;
+use declarations::{Typed, begin_program};
 use std::alloc::{AllocError, Global};
 use syntax_tree::Program;
-use typed_tree::{Block, Heading, Tree, TypeFault};
+use typed_tree::{Block, Heading, Tree};
 use typing::Typer;
 
 /// The typed tree of a program, or the first rule of names and types that it breaks, with its place.
-pub fn resolve(alloc: Global, program: &Program) -> Result<Tree, TypeFault>
+pub fn resolve(alloc: Global, program: &Program) -> Typed<Tree>
     // It is the typed tree of the program, which breaks no rule of names and types.
     ensures typed { IfOk result (IsTyped program.now) }
 
@@ -63,7 +63,7 @@ pub fn resolve(alloc: Global, program: &Program) -> Result<Tree, TypeFault>
 }
 
 // Its blocks, each in its place by its number.
-fn typed_program(alloc: Global, program: &Program) -> Result<Tree, TypeFault>
+fn typed_program(alloc: Global, program: &Program) -> Typed<Tree>
     ensures { MatchResult result (IsResolved program.now) (IsFault (typing program.now)) }
 {
     let mut typer = begin_program(alloc, program)?;
@@ -72,7 +72,7 @@ fn typed_program(alloc: Global, program: &Program) -> Result<Tree, TypeFault>
 }
 
 // Passes the block of a program, behind its parameters, and makes its blocks as its tree has them.
-fn laid_blocks(typer: &mut Typer, program: &Program) -> Result<LaidBlocks, TypeFault>
+fn laid_blocks(typer: &mut Typer, program: &Program) -> Typed<LaidBlocks>
     requires begun { declared program.now ≡ Ok (after tt [] typer.old) }
     requires known { AreKnown (typed_block program.now.block).names typer.old.regions }
     ensures { MatchResult result (AreLaidBlocks program.now typer.new) (IsFault (typing program.now)) }
@@ -83,11 +83,7 @@ fn laid_blocks(typer: &mut Typer, program: &Program) -> Result<LaidBlocks, TypeF
 }
 
 // Passes the block of a program, behind its parameters, and makes its blocks in the order of the text, its own last.
-fn program_blocks(
-    typer: &mut Typer,
-    made: &mut Vec<MadeBlock>,
-    program: &Program,
-) -> Result<(), TypeFault>
+fn program_blocks(typer: &mut Typer, made: &mut Vec<MadeBlock>, program: &Program) -> Typed<()>
     requires none { made.old.items ≡ [] }
     requires begun { declared program.now ≡ Ok (after tt [] typer.old) }
     requires known { AreKnown (typed_block program.now.block).names typer.old.regions }
@@ -112,7 +108,7 @@ fn program_blocks(
 
 // Blocks that were made in the order of the text, as a tree has them.
 #[tactic(auto, using(crate::proofs::Arranged::arranged_held))]
-fn laid_out(alloc: Global, made: Vec<MadeBlock>) -> Result<LaidBlocks, TypeFault>
+fn laid_out(alloc: Global, made: Vec<MadeBlock>) -> Typed<LaidBlocks>
     requires held { are_held_made made.items ≡ true }
     ensures { MatchResult result (AreLaidOut made.items) (λ why. why ≡ Memory the_refusal) }
 {

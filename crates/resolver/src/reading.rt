@@ -10,6 +10,7 @@ ghost use Rattle.resolver.specs.Made.{MakesRead, MakesReads, MakesStmt};
 
 use crate::calls::parameters_of;
 use crate::owned::made_beside;
+use declarations::Typed;
 use expression_resolver::{access, first_place, named_variable};
 use place::Place;
 use scopes::RequiredProcedure;
@@ -25,7 +26,7 @@ pub(crate) fn read(
     name: &Name,
     actuals: &[Actual],
     procedure: RequiredProcedure,
-) -> Result<Stmt, TypeFault>
+) -> Typed<Stmt>
     ensures made { MakesStmt (spec.read name.now (map written_actual actuals.now) procedure typer.old) result
         typer.new }
     ensures held { IfOk result (λ made. is_held_stmt made ≡ true) }
@@ -43,7 +44,7 @@ pub(crate) fn read(
 
 // The point at which a readln wants a line end, at its name.
 #[tactic(auto, unfolding(typing::specs::Statements::line_point))]
-fn line_point(typer: &mut Typer, place: Place, ends_line: bool) -> Result<Option<u32>, TypeFault>
+fn line_point(typer: &mut Typer, place: Place, ends_line: bool) -> Typed<Option<u32>>
     ensures { TypingTakes (spec.line_point place ends_line typer.old) result typer.new }
 {
     if !ends_line {
@@ -53,7 +54,7 @@ fn line_point(typer: &mut Typer, place: Place, ends_line: bool) -> Result<Option
 }
 
 // Variables that are read, one after another.
-fn read_parameters(typer: &mut Typer, written: &[Actual]) -> Result<Vec<ReadVariable>, TypeFault>
+fn read_parameters(typer: &mut Typer, written: &[Actual]) -> Typed<Vec<ReadVariable>>
     ensures made { MakesReads (each spec.read_parameter (map written_actual written.now) typer.old) result typer.new }
     ensures held { IfOk result (λ made. all_hold (map is_held_read made.items) ≡ true) }
 {
@@ -66,7 +67,7 @@ fn read_parameters(typer: &mut Typer, written: &[Actual]) -> Result<Vec<ReadVari
 
 // A variable that is read, which has no width: K2 at the first token of what is none.
 #[tactic(auto, using(crate::proofs::Readings::read_forms), unfolding(typing::specs::Statements::read_parameter))]
-fn read_parameter(typer: &mut Typer, written: &Actual) -> Result<ReadVariable, TypeFault>
+fn read_parameter(typer: &mut Typer, written: &Actual) -> Typed<ReadVariable>
     ensures made { MakesRead (spec.read_parameter (written_actual written.now) typer.old) result typer.new }
     ensures held { IfOk result (λ made. is_held_read made ≡ true) }
 {
@@ -92,7 +93,7 @@ fn read_access(
     name: &Name,
     selectors: &[Selector],
     indexes: &[Expr],
-) -> Result<ReadVariable, TypeFault>
+) -> Typed<ReadVariable>
     ensures made { MakesRead (read_variable name.now selectors.now (map expression indexes.now) typer.old) result
         typer.new }
     ensures held { IfOk result (λ made. is_held_read made ≡ true) }

@@ -9,17 +9,18 @@ ghost use Rattle.typing.specs.Statements.{written_record};
 ghost use Rattle.typing.specs.Steps.{close_record};
 ghost use Rattle.resolver.specs.Made.{MakesRecord, MakesRecords};
 
+use declarations::Typed;
 use expression_resolver::{access, named_variable};
 use std::alloc::{AllocError, Global};
 use syntax_tree::RecordVariable;
-use typed_tree::{Access, Base, PathStep, Selector, TypeFault, WithRecord};
+use typed_tree::{Access, Base, PathStep, Selector, WithRecord};
 use typing::{OpenRecord, Typer};
 
 /// The records of a with, each of which is opened before the next is looked up.
 pub(crate) fn opened_records(
     typer: &mut Typer,
     written: &[RecordVariable],
-) -> Result<Vec<WithRecord>, TypeFault>
+) -> Typed<Vec<WithRecord>>
     ensures made { MakesRecords (each spec.opened (map written_record written.now) typer.old) result typer.new }
     ensures held { IfOk result (λ made. all_hold (map is_held_record made.items) ≡ true) }
 {
@@ -32,7 +33,7 @@ pub(crate) fn opened_records(
 
 // A record, which is accessed, and whose fields are names from here on: K1 at its name where it is none.
 #[tactic(auto, unfolding(typing::specs::Statements::opened))]
-fn opened(typer: &mut Typer, written: &RecordVariable) -> Result<WithRecord, TypeFault>
+fn opened(typer: &mut Typer, written: &RecordVariable) -> Typed<WithRecord>
     ensures made { MakesRecord (spec.opened (written_record written.now) typer.old) result typer.new }
     ensures held { IfOk result (λ made. is_held_record made ≡ true) }
 {

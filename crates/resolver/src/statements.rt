@@ -15,17 +15,18 @@ use crate::cases::constant_row;
 use crate::heads::{case_head, condition, empty, for_head, if_head};
 use crate::owned::{in_box, made_beside};
 use crate::records::{close_records, opened_records};
+use declarations::Typed;
 use indexmap::IndexSet;
 use place::Place;
 use syntax_tree as syntax;
-use typed_tree::{CaseHead, ForHead, LoopHead, Stmt, TypeFault, WithHead};
+use typed_tree::{CaseHead, ForHead, LoopHead, Stmt, WithHead};
 use types::TypeId;
 use typing::Typer;
 
 /// A statement.
 #[cycle(statements)]
 #[tactic(auto, using(typing::proofs::Written::written_statements))]
-pub(crate) fn statement(typer: &mut Typer, written: &syntax::Stmt) -> Result<Stmt, TypeFault>
+pub(crate) fn statement(typer: &mut Typer, written: &syntax::Stmt) -> Typed<Stmt>
     ensures made { MakesStmt (spec.statement written.now typer.old) result typer.new }
     ensures held { IfOk result (λ made. is_held_stmt made ≡ true) }
 {
@@ -55,7 +56,7 @@ pub(crate) fn statement(typer: &mut Typer, written: &syntax::Stmt) -> Result<Stm
 // A conditional statement (6.8.3.3).
 #[cycle(statements)]
 #[tactic(auto, using(crate::proofs::Branches::conditional_forms), unfolding(typing::specs::Statements::choice))]
-fn conditional(typer: &mut Typer, written: &syntax::Stmt) -> Result<Stmt, TypeFault>
+fn conditional(typer: &mut Typer, written: &syntax::Stmt) -> Typed<Stmt>
     requires { is_conditional written.now ≡ true }
     ensures made { MakesStmt (spec.statement written.now typer.old) result typer.new }
     ensures held { IfOk result (λ made. is_held_stmt made ≡ true) }
@@ -91,7 +92,7 @@ fn conditional(typer: &mut Typer, written: &syntax::Stmt) -> Result<Stmt, TypeFa
 // A repetitive statement (6.8.3.6).
 #[cycle(statements)]
 #[tactic(auto, using(typing::proofs::Written::written_statements))]
-fn repetitive(typer: &mut Typer, written: &syntax::Stmt) -> Result<Stmt, TypeFault>
+fn repetitive(typer: &mut Typer, written: &syntax::Stmt) -> Typed<Stmt>
     requires { is_repetitive written.now ≡ true }
     ensures made { MakesStmt (spec.statement written.now typer.old) result typer.new }
     ensures held { IfOk result (λ made. is_held_stmt made ≡ true) }
@@ -125,7 +126,7 @@ fn repetitive(typer: &mut Typer, written: &syntax::Stmt) -> Result<Stmt, TypeFau
 /// Statements between `begin` and `end`.
 #[cycle(statements)]
 #[tactic(auto, using(crate::proofs::Branches::made_compound), unfolding(typing::specs::Statements::compound))]
-pub(crate) fn compound(typer: &mut Typer, written: &[syntax::Stmt]) -> Result<Stmt, TypeFault>
+pub(crate) fn compound(typer: &mut Typer, written: &[syntax::Stmt]) -> Typed<Stmt>
     ensures made { MakesStmt (spec.compound (map spec.statement written.now) typer.old) result typer.new }
     ensures held { IfOk result (λ made. is_held_stmt made ≡ true) }
 {
@@ -136,7 +137,7 @@ pub(crate) fn compound(typer: &mut Typer, written: &[syntax::Stmt]) -> Result<St
 
 // Statements, one after another.
 #[cycle(statements)]
-fn statements(typer: &mut Typer, written: &[syntax::Stmt]) -> Result<Vec<Stmt>, TypeFault>
+fn statements(typer: &mut Typer, written: &[syntax::Stmt]) -> Typed<Vec<Stmt>>
     ensures made { MakesStmts (each (λ s. s) (map spec.statement written.now) typer.old) result typer.new }
     ensures held { IfOk result (λ made. all_hold (map is_held_stmt made.items) ≡ true) }
 {
@@ -149,7 +150,7 @@ fn statements(typer: &mut Typer, written: &[syntax::Stmt]) -> Result<Vec<Stmt>, 
 
 // A statement inside another.
 #[cycle(statements)]
-fn boxed(typer: &mut Typer, written: &syntax::Stmt) -> Result<Box<Stmt>, TypeFault>
+fn boxed(typer: &mut Typer, written: &syntax::Stmt) -> Typed<Box<Stmt>>
     ensures made { MakesBoxed (spec.statement written.now typer.old) result typer.new }
     ensures held { IfOk result (λ made. is_held_stmt made.value ≡ true) }
 {
@@ -160,10 +161,7 @@ fn boxed(typer: &mut Typer, written: &syntax::Stmt) -> Result<Box<Stmt>, TypeFau
 // The statement behind `else`, if there is one.
 #[cycle(statements)]
 #[tactic(auto, unfolding(typing::specs::Statements::alternative))]
-fn other(
-    typer: &mut Typer,
-    written: &Option<Box<syntax::Stmt>>,
-) -> Result<Option<Box<Stmt>>, TypeFault>
+fn other(typer: &mut Typer, written: &Option<Box<syntax::Stmt>>) -> Typed<Option<Box<Stmt>>>
     ensures made { MakesAlternative (spec.alternative (option_map (λ s. spec.statement s.value) written.now) typer.old)
         result typer.new }
     ensures held { IfOk result (λ made. is_held_else made ≡ true) }
@@ -182,7 +180,7 @@ fn while_loop(
     body: &syntax::Stmt,
     place: Place,
     tested: &syntax::Expr,
-) -> Result<Stmt, TypeFault>
+) -> Typed<Stmt>
     ensures made { MakesStmt (spec.while_loop place (expression tested.now) (spec.statement body.now) typer.old)
         result typer.new }
     ensures held { IfOk result (λ made. is_held_stmt made ≡ true) }
@@ -207,7 +205,7 @@ fn repeat_loop(
     place: Place,
     written: &[syntax::Stmt],
     tested: &syntax::Expr,
-) -> Result<Stmt, TypeFault>
+) -> Typed<Stmt>
     ensures made { MakesStmt (spec.repeat_loop place (map spec.statement written.now) (expression tested.now) typer.old)
         result typer.new }
     ensures held { IfOk result (λ made. is_held_stmt made ≡ true) }
@@ -228,7 +226,7 @@ fn repeat_loop(
 // A for (6.8.3.9), behind its `do`.
 #[cycle(statements)]
 #[tactic(auto, using(crate::proofs::Branches::made_for), unfolding(typing::specs::Statements::for_body))]
-fn for_loop(typer: &mut Typer, head: ForHead, body: &syntax::Stmt) -> Result<Stmt, TypeFault>
+fn for_loop(typer: &mut Typer, head: ForHead, body: &syntax::Stmt) -> Typed<Stmt>
     requires first { is_ordinal_expr head.first.value ≡ true }
     requires last { is_ordinal_expr head.last.value ≡ true }
     ensures made { MakesStmt (behind_marks (for_head_look head) (spec.for_body head.control (spec.statement body.now)
@@ -250,7 +248,7 @@ fn case_statement(
     place: Place,
     index: &syntax::Expr,
     constants: &[Vec<syntax::Constant>],
-) -> Result<Stmt, TypeFault>
+) -> Typed<Stmt>
     ensures made { MakesStmt (spec.case_statement place (expression index.now)
         (arms_of constants.now (map spec.statement arms.now)) typer.old) result typer.new }
     ensures held { IfOk result (λ made. is_held_stmt made ≡ true) }
@@ -269,7 +267,7 @@ fn with(
     place: Place,
     records: &[syntax::RecordVariable],
     body: &syntax::Stmt,
-) -> Result<Stmt, TypeFault>
+) -> Typed<Stmt>
     ensures made { MakesStmt (spec.with_statement place (map spec.written_record records.now) (spec.statement body.now)
         typer.old) result typer.new }
     ensures held { IfOk result (λ made. is_held_stmt made ≡ true) }
@@ -295,7 +293,7 @@ fn case_arms(
     type_id: TypeId,
     constants: &[Vec<syntax::Constant>],
     written: &[syntax::Stmt],
-) -> Result<(Vec<Vec<i32>>, Vec<Stmt>), TypeFault>
+) -> Typed<(Vec<Vec<i32>>, Vec<Stmt>)>
     ensures made { MakesArms (spec.case_arms type_id [] (arms_of constants.now (map spec.statement written.now))
         typer.old) result typer.new }
     ensures held { IfOk result (λ made. all_hold (map is_held_stmt (made.1).items) ≡ true) }

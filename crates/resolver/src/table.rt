@@ -5,12 +5,13 @@ ghost use Rattle.typed_tree.specs.declared.fault.TypeFault.TheVariants.{Memory};
 ghost use Rattle.resolver.specs.Table.{Meets, closed, controlled, meets, opened, rows_of_made, seen, IsTableOf};
 
 use crate::typed::MadeBlock;
+use declarations::Typed;
 use memory::Refused;
 use std::alloc::{AllocError, Global};
 use typed_tree::{Loop, Stmt, TypeFault};
 
 /// The table of the loops of blocks, which stand in the order of the text.
-pub(crate) fn table_of(alloc: Global, blocks: &[MadeBlock]) -> Result<Vec<Loop>, TypeFault>
+pub(crate) fn table_of(alloc: Global, blocks: &[MadeBlock]) -> Typed<Vec<Loop>>
     ensures { MatchResult result (λ rows. IsTableOf blocks.now rows.items) (λ why. why ≡ Memory the_refusal) }
 {
     let mut met = Met {

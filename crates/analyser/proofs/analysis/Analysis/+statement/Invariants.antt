@@ -29,14 +29,8 @@ decreases-records l = 16 * l.left + 6
 abbrev pub decreases-statements : goal.decreases-statements
 decreases-statements l = 16 * l.left + 6
 
-abbrev pub decreases-while_turn : goal.decreases-while_turn
-decreases-while_turn l = 16 * l.left + 7
-
-abbrev pub decreases-repeat_turn : goal.decreases-repeat_turn
-decreases-repeat_turn l = 16 * l.left + 7
-
-abbrev pub decreases-for_turn : goal.decreases-for_turn
-decreases-for_turn l = 16 * l.left + 7
+abbrev pub decreases-tested_turn : goal.decreases-tested_turn
+decreases-tested_turn l = 16 * l.left + 7
 
 abbrev pub decreases-turn : goal.decreases-turn
 decreases-turn l = 16 * l.left + 8
@@ -50,8 +44,8 @@ decreases-for_loop l = 16 * l.left + 10
 abbrev pub decreases-case : goal.decreases-case
 decreases-case l = 16 * l.left + 9
 
-abbrev pub invariant-turns-loop : goal.invariant-turns-loop
-invariant-turns-loop l = l.left ≡ l.fn.left
+abbrev pub invariant-turns-loop-repeats : goal.invariant-turns-loop-repeats
+invariant-turns-loop-repeats l = l.left ≡ l.fn.left
 
 abbrev pub invariant-calls-loop-event : goal.invariant-calls-loop-event
 invariant-calls-loop-event l = l.left ≡ l.fn.left
