@@ -1,4 +1,4 @@
-"""The twelve forms at the head of docs/CERTIFICATES.md: each stands in a program here that is told for it, and with
+"""The eleven forms at the head of docs/CERTIFICATES.md: each stands in a program here that is told for it, and with
 what the page has in its place fewer lines are told."""
 
 import os
@@ -16,41 +16,35 @@ ROW = re.compile(r"^\| (\d+) \| `([^`]+)`[^|]* \| `([^`]+)` \|$", re.M)
 PROGRAMS = (
     (
         "undefined variable",
-        """const size = 5;
-        var a: array [1..size] of integer; i, x: integer;
-        function digit: integer; begin digit := i * i mod 10 end;
+        """var a: array [1..5] of integer; i, k: integer;
+        function next: integer; begin i := 2; next := 7 end;
         begin
-          for i := 1 to size do begin @ end;
-          for i := 1 to size do write(a[i]: 2)
+          i := 1;
+          @;
+          i := 1;
+          writeln(a[i]: 1)
         end.""",
     ),
     (
         "subrange",
         """const size = 8;
-        var b: record count: 0..size; cell: array [1..size] of integer end; x, n: integer;
-        procedure put(x: integer); begin @ end;
+        var b: array [1..2] of record k: 0..size end; i, n: integer;
+        procedure put(i: integer); begin @ end;
         begin
-          b.count := 0;
-          while not eof do begin readln(x); put(x) end
+          b[1].k := 0; b[2].k := 0;
+          while not eof do for i := 1 to 2 do put(i)
         end.""",
     ),
     (
         "undefined variable",
-        """var m: array [1..4, 1..4] of integer; i, j: integer;
+        """type row = array [1..4] of integer;
+        var c: array [1..4, 1..4] of row; r: row; i, j, k: integer;
         begin
-          for i := 1 to 4 do begin @ end;
-          writeln(m[2, 2]: 1)
+          for i := 1 to 4 do for j := 1 to 4 do begin @ end;
+          writeln(c[2, 2, 2]: 1)
         end.""",
     ),
     ("division by zero", "var x, y, q: integer; begin readln(x, y); @ end."),
-    (
-        "index",
-        """var c: char; seen: array ['0'..'9'] of boolean;
-        begin
-          for c := '0' to '9' do seen[c] := false;
-          while not eof do begin read(c); @ end
-        end.""",
-    ),
     (
         "division by zero",
         """var a: array [1..5] of integer; i, x, most: integer;
@@ -134,7 +128,7 @@ def forms():
     """The forms of the page, each with what to write instead."""
     with open(PAGE, encoding="utf-8") as file:
         page = file.read()
-    section = re.search(r"^## Twelve forms.*?(?=^## )", page, re.M | re.S)[0]
+    section = re.search(r"^## Eleven forms.*?(?=^## )", page, re.M | re.S)[0]
     return ROW.findall(section), section
 
 
@@ -149,10 +143,10 @@ class Forms(unittest.TestCase):
         self.assertNotIn("refused", " ".join(lines))
         return lines
 
-    def test_twelve(self):
+    def test_eleven(self):
         rows, section = forms()
-        self.assertEqual([int(number) for number, _, _ in rows], list(range(1, 13)))
-        self.assertEqual(len(PROGRAMS), 12)
+        self.assertEqual([int(number) for number, _, _ in rows], list(range(1, 12)))
+        self.assertEqual(len(PROGRAMS), 11)
         self.assertEqual(re.findall(r"^(\d+)\. `", section, re.M), [number for number, _, _ in rows])
 
     def test_fewer_lines_are_told(self):
@@ -167,7 +161,7 @@ class Forms(unittest.TestCase):
 
     def test_what_is_written_instead_is_silent(self):
         for (number, _, instead), (_, program) in zip(forms()[0], PROGRAMS):
-            if number != "12":
+            if number != "11":
                 self.assertEqual(self.told(program, instead), [], number)
 
 

@@ -16,7 +16,7 @@ PAGE = os.path.join(TOP, "docs", "GALLERY.md")
 SECONDS = 60
 COUNT = re.compile(r"\]\(\.\./examples/gallery/(\w+)\.pas\): (none|\d+) of (\d+) sites (?:is|are) told\. ")
 DIFF = re.compile(r"^With this (none|\d+) (?:is|are) told:\n\n```diff\n(.*?)^```$", re.M | re.S)
-NUMBERS = {"none": 0, "five": 5, "nine": 9, "twenty-seven": 27}
+NUMBERS = {"none": 0, "five": 5, "ten": 10, "twenty-seven": 27}
 # The one that fails with its own input, and what it is told then; and others with an input of which they fail.
 FAILS = {"triangle": "16:10: error: index"}
 FAILING = (
@@ -167,7 +167,7 @@ class Page(GalleryCase):
                     self.assertEqual(len(after[1]), number(left))
                     self.assertLess(len(after[1]), self.sites(path)[1])
                     changed += 1
-        self.assertGreaterEqual(changed, 17)
+        self.assertGreaterEqual(changed, 15)
 
     def test_mended_primes(self):
         """The mended test for primes is right, for the number too at which the other fails."""

@@ -16,10 +16,10 @@ HEAD = """program p(input, output);
 const size = 9;
 type color = (red, green); row = array [1..9] of integer;
 var x, y, n, i, j: integer; t: color; a: row; c: char;
-  b: record count: 0..9 end; m: array [1..3] of array [1..9] of integer;
+  b: array [1..2] of record count: 0..9 end; m: array [1..3] of array [1..9] of integer;
   d: array [1..9] of integer; k: array ['0'..'9'] of integer;
 function f(x: integer): integer; begin f := x end;
-function g: integer; begin g := 7 end;
+function g: integer; begin g := 7 end; function h: integer; begin n := 2; h := 7 end;
 begin
   read(x, y, n, c);
 """
@@ -53,19 +53,18 @@ STATEMENTS = {
     "values that are written": ("writeln(x, t)", "x := t"),
     "types written apart": ("a := d", "a[1] := t"),
     "element that gets the value of a call": (
-        "for i := 1 to 9 do a[i] := f(i); write(a[2])",
+        "n := 1; a[n] := h; write(a[n])",
         "a[1] := 2; write(a[2])",
     ),
     "tables of two indexes": (
-        "for j := 1 to 9 do for i := 1 to 3 do m[i, j] := 0; write(m[2, 2])",
+        "for j := 1 to 8 do for i := 1 to 3 do m[i, j] := 0; write(m[2, 9])",
         "m[1] := a; write(x div m[2, 2])",
     ),
     "condition that isn't 0": ("if y <> 0 then x := x div y", "x := x div y"),
-    "membership": ("if c in ['0'..'9'] then k[c] := 0", "k[c] := 0"),
     "component in a condition of an index": ("a[1] := n; if a[1] < 9 then a[a[1]] := 1", "if n > 2 then a[n] := 1"),
     "component in a condition of a subrange": (
-        "b.count := 0; while n > 1 do begin n := n - 1; if b.count < size then b.count := b.count + 1 end",
-        "b.count := n",
+        "b[1].count := 0; while n > 1 do begin n := n - 1; if b[1].count < size then b[1].count := b[1].count + 1 end",
+        "b[1].count := n",
     ),
     "counter": ("while not eof do begin n := n + 1; read(c) end", "n := x + y"),
 }

@@ -62,12 +62,12 @@ impl<'a> Analysis<'a> {
         visits.tick(head.number);
         self.enter_loop(head.loop_number, None);
         self.statements(before, left, visits);
-        let known = self.value(&head.condition, left, visits);
+        let valued = self.condition(&head.condition, left, visits);
         let mark = self.state().mark();
-        self.walk.go_where(&head.condition, &known, goes_on);
+        self.walk.go_where(&head.condition, &valued, goes_on);
         self.statements(behind, left, visits);
         let moved = self.leave_turn(head.loop_number, mark);
-        self.walk.go_where(&head.condition, &known, !goes_on);
+        self.walk.go_where(&head.condition, &valued, !goes_on);
         moved
     }
 

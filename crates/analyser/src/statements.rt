@@ -1,5 +1,6 @@
 use crate::{Analysis, Tally};
 use analyser_claims::{events_of, expression_events};
+use cert_checker::Valued;
 use checker_expressions::Count;
 use checker_state::{Known, entire};
 use checker_ways::cases::begin_arm;
@@ -27,12 +28,12 @@ impl<'a> Analysis<'a> {
                 alternative,
             } => {
                 visits.tick(*number);
-                let known = self.value(condition, left, visits);
+                let valued = self.condition(condition, left, visits);
                 let mark = self.state().mark();
-                self.walk.go_where(condition, &known, true);
+                self.walk.go_where(condition, &valued, true);
                 self.statement(consequence, left, visits);
                 let first = self.walk.flow.state.leave(mark);
-                self.walk.go_where(condition, &known, false);
+                self.walk.go_where(condition, &valued, false);
                 if let Some(other) = alternative {
                     self.statement(other, left, visits);
                 }
@@ -103,12 +104,27 @@ impl<'a> Analysis<'a> {
     /// What is known of the value of an expression.
     #[cycle(statement)]
     pub(crate) fn value(&mut self, expression: &Expr, left: u32, visits: &mut Tally) -> Known {
-        let alloc = self.state().alloc();
-        let comes_back = !holds_call(expression)
-            || self.calls_among(expression_events(alloc, expression), left, visits);
+        let comes_back = self.comes_back(expression, left, visits);
         let known = self.walk.expression(expression, visits);
         self.die_unless(comes_back);
         known
+    }
+
+    /// The same of a condition, whose operands may tell something of one another.
+    #[cycle(statement)]
+    pub(crate) fn condition(&mut self, condition: &Expr, left: u32, visits: &mut Tally) -> Valued {
+        let comes_back = self.comes_back(condition, left, visits);
+        let valued = self.walk.condition(condition, visits);
+        self.die_unless(comes_back);
+        valued
+    }
+
+    // Whether the calls in an expression come back.
+    #[cycle(statement)]
+    fn comes_back(&mut self, expression: &Expr, left: u32, visits: &mut Tally) -> bool {
+        let alloc = self.state().alloc();
+        !holds_call(expression)
+            || self.calls_among(expression_events(alloc, expression), left, visits)
     }
 }
 

@@ -1,6 +1,6 @@
 use crate::{Array, Memory, Program};
 use certificate::Fact;
-use checker_rows::Rows;
+use checker_rows::{Rows, limits};
 use checker_state::{Bound, bound_form};
 use domain::Version;
 use domain::facts::{self, Spans};
@@ -61,13 +61,14 @@ impl End {
     }
 }
 
-/// Which elements of an array: all by their first index, or those of a matrix in one row by the second, or those in one
-/// column by the first.
+/// Which elements of an array: all by their first index, or those of a matrix in one row by the second, those in one
+/// column by the first, or those in all rows by the second.
 #[derive(Clone, Copy, PartialEq, Eq, PartialOrd, Ord)]
 pub enum Way {
     All,
     Row,
     Column,
+    Across,
 }
 
 /// Elements that lie so, in which row or column, if it is one.
@@ -80,6 +81,11 @@ pub struct Line {
 impl Line {
     pub(crate) const ALL: Line = Line {
         way: Way::All,
+        at: None,
+    };
+
+    pub(crate) const ACROSS: Line = Line {
+        way: Way::Across,
         at: None,
     };
 }
@@ -126,6 +132,7 @@ impl Claim {
                 let spans = match (line.way, line.at) {
                     (Way::Row, Some(row)) => Spans::Two(said_span(row, row)?, span),
                     (Way::Column, Some(column)) => Spans::Two(span, said_span(column, column)?),
+                    (Way::Across, _) => Spans::Two(all_indexes(program.rows, *array)?, span),
                     _ => Spans::One(span),
                 };
                 let path = part.path(&program.memory);
@@ -223,6 +230,12 @@ pub fn naming(memory: &Memory, named: &[(u32, Claim)], roots: &[u32]) -> Vec<Cla
         memory.put(claims.extend(theirs.map(|(_, claim)| *claim)));
     }
     claims
+}
+
+// That of all first indexes of an array.
+fn all_indexes(rows: &Rows, array: Array) -> Option<facts::Span> {
+    let values = limits(rows.index(array.row)?);
+    said_span(End::constant(values.first()), End::constant(values.last()))
 }
 
 // A span as certificates tell it, if they have its numbers.

@@ -79,7 +79,7 @@ impl Store {
     // The values of the index.
     fn values(&self, rows: &Rows) -> Option<Interval> {
         let index = match self.line.way {
-            Way::Row => rows.inner(self.array.row),
+            Way::Row | Way::Across => rows.inner(self.array.row),
             Way::All | Way::Column => rows.index(self.array.row),
         };
         Some(limits(index?))
@@ -120,6 +120,12 @@ impl<'t> Deeds<'t> {
         let end = self.before(root, kind, turns.end);
         let end = end.min(first.saturating_add(MOST_DEEDS));
         self.of_variables.get(first..end).unwrap_or(&[])
+    }
+
+    // Whether a loop inside the one that steps its variable lies round a store.
+    fn is_deeper(&self, store: &Store, turns: &Turns) -> bool {
+        let innermost = store.inside.and_then(|place| self.loops.get(place));
+        innermost.is_some_and(|inside| turns.first < inside.first)
     }
 
     // The innermost loop round a store that is a for over its variable, or that steps the variable; else none, at the
@@ -265,6 +271,7 @@ impl<'p, 't> Program<'p, 't> {
             (Some((array, 1)), [.., index]) => self.see_index(array, Line::ALL, index, deeds),
             (Some((array, 2)), [.., row, index]) => {
                 self.see_index(array, Line::ALL, row, deeds);
+                self.see_index(array, Line::ACROSS, index, deeds);
                 for (way, at, index) in [(Way::Row, row, index), (Way::Column, index, row)] {
                     let at = End::of(self.rows, at);
                     if at.is_some() {
@@ -303,6 +310,10 @@ impl<'p, 't> Program<'p, 't> {
             return;
         };
         let turns = deeds.turns(store);
+        // What is filled row by row is known by its rows.
+        if store.line == Line::ACROSS && !deeds.is_deeper(store, &turns) {
+            return;
+        }
         for (step, outermost) in [(1, values.first()), (-1, values.last())] {
             let Some((mut begins, mut ends)) = self.ways(store, step, &turns, deeds) else {
                 continue;

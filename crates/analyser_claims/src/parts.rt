@@ -137,7 +137,8 @@ fn add_part(memory: &Memory, rows: &Rows, parts: &mut Vec<Part>, path: Path) {
 }
 
 /// What is accessed by fields and by indexes behind them, without these indexes, or a part of an element, to which one
-/// index leads; and how many indexes there are. `None` where the access is another one.
+/// index leads, with an index behind it perhaps; and how many indexes there are. `None` where the access is another
+/// one.
 pub(crate) fn array_accessed(rows: &Rows, access: &Access) -> Option<(Array, usize)> {
     let selectors = &access.selectors;
     let indexes = selectors
@@ -146,7 +147,9 @@ pub(crate) fn array_accessed(rows: &Rows, access: &Access) -> Option<(Array, usi
         .count();
     let are_last = selectors.iter().rev().take(indexes).all(is_index);
     let is_told = match &access.base {
-        Base::Variable => are_last || indexes == 1,
+        Base::Variable => {
+            are_last || indexes == 1 || indexes == 2 && selectors.last().is_some_and(is_index)
+        }
         Base::Record { path, .. } => {
             are_last && path.iter().all(|step| matches!(step, PathStep::Field(_)))
         }

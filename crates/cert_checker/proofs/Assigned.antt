@@ -10,7 +10,6 @@ use Rattle.typed_tree.specs.declared.tree.ReadVariable.{ReadVariable}
 use Rattle.typed_tree.specs.declared.tree.Selector.{Selector}
 use Rattle.typed_tree.specs.declared.tree.Tree.{Tree}
 use Rattle.typed_tree.specs.Accesses.{Origin, origin_of, root_of}
-use Rattle.typed_tree.specs.Calls.{holds_call, whole_holds_call}
 use Rattle.domain.specs.Interval.{Interval}
 use Rattle.checker_rows.specs.Limits.{limits_of}
 use Rattle.checker_rows.specs.Rows.{is_ordinal_variable, rows_accessed}
@@ -26,7 +25,7 @@ use Rattle.checker_trail.specs.Trail.{Moves}
 use Rattle.checker_loops.specs.Aliases.{reach_unless_alias, unless_alias, with_aliases_stored}
 use Rattle.checker_expressions.specs.View.{state_of}
 use Rattle.checker_expressions.specs.Visits.{all_counted}
-use Rattle.checker_expressions.specs.Walk.{Walking, ◌>>=◌, access_walk, changed_by, fitting, index_pieces, value_walk, whole_walk}
+use Rattle.checker_expressions.specs.Walk.{Walking, ◌>>=◌, access_walk, changed_by, fitting, index_pieces, piece_of, value_walk, whole_walk}
 use Rattle.checker_calls.proofs.Origins.{root_is}
 use Rattle.checker_expressions.proofs.Counted.{counted-both}
 use Rattle.cert_checker.specs.declared.walk.Walk.{Walk}
@@ -35,7 +34,8 @@ use Rattle.checker_expressions.specs.declared.noting.Noted.{Noted}
 use Rattle.checker_expressions.specs.Walk.{Valued, noting_walk}
 use Rattle.domain.specs.Versions.{has}
 use Rattle.domain.specs.declared.versions.Extension.TheVariants.{Growths}
-use Rattle.cert_checker.specs.Steps.{assigned_walk, unnoted_walk, value_step}
+use Rattle.domain.specs.declared.versions.Extension.{Extension}
+use Rattle.cert_checker.specs.Steps.{noted_where, unnoted_walk, value_step}
 use Rattle.cert_checker.specs.Walk.{Stores, aliases_here, alike, assign, assign_component, assign_entire, assign_to, assign_value, assignment_walk, change}
 use Rattle.cert_checker.specs.Walk.{copy_to, copying_walk, from_entry, is_whole_variable, paired, point_place, reach_stored, read_value, store_to, stores_made}
 use Rattle.cert_checker.proofs.Steps.{goes-from_entry, goes-here, goes-then, moved}
@@ -154,7 +154,7 @@ value-goes assignment reach notes passed tree form step range {old = old} tree_i
 pub read-goes : (name place : SourcePlace) (one : ReadVariable) (tree : Tree) (selectors : List Selector) (reach held : Reach) (range : Interval)
     {old new : Walk}
     → tree ≡ old.flow.state.table.now → place ≡ point_place tree one.point name → selectors ≡ one.access.selectors.items
-    → held ≡ reach_stored old.flow.grounds.version selectors false reach → range ≡ limits_of one.range
+    → held ≡ reach_stored (context_of old) selectors [] reach → range ≡ limits_of one.range
     → WalkGoes (assign_to place (origin_of one.access) one.access.selectors.items held None None range) old new tt → WalkGoes (read_value name one reach) old
     new tt
 read-goes name place one tree selectors reach held range {old = old} tree_is place_is selectors_are held_is range_is stores =
@@ -163,26 +163,28 @@ read-goes name place one tree selectors reach held range {old = old} tree_is pla
     let form = λ (p : SourcePlace) (r : Reach) (i : Interval).
     assign_to p (origin_of one.access) own r None None i (context_of old) (state_of old.flow) in
     let place_here : place ≡ point_place before one.point name = place_is ∙ ap (λ (t : Tree). point_place t one.point name) tree_is in
-    let version = old.flow.grounds.version in
-    let held_here : held ≡ reach_stored version own false reach = held_is ∙ ap (λ (s : List Selector). reach_stored version s false reach) selectors_are in
+    let held_here : held ≡ reach_stored (context_of old) own [] reach =
+    held_is ∙ ap (λ (s : List Selector). reach_stored (context_of old) s [] reach) selectors_are in
     goes-here (assign_to place (origin_of one.access) own held None None range) (read_value name one reach)
     (ap (λ (p : SourcePlace). form p held range) place_here
     ∙ ap₂ (λ (r : Reach) (i : Interval). form (point_place before one.point name) r i) held_here range_is) stores
 
--- ---- values that are assigned
+-- ---- values that may be noted
 
--- where certificates tell how variables grow
-pub noting-goes : (e : Expr) (told : Valued) {old new : Walk} → has (context_of old).version Growths ≡ true → WalkGoes (noting_walk [] e) old new told
-    → WalkGoes (assigned_walk e) old new told
-noting-goes e told {old = old} is one =
-    goes-here (noting_walk [] e) (assigned_walk e)
+-- where certificates have an extension
+pub noting-goes : (extension : Extension) (e : Expr) (told : Valued) {old new : Walk} → has (context_of old).version extension ≡ true
+    → WalkGoes (noting_walk [] e) old new told
+    → WalkGoes (noted_where extension e) old new told
+noting-goes extension e told {old = old} is one =
+    goes-here (noting_walk [] e) (noted_where extension e)
     (ap (λ (b : Bool). cond b (noting_walk [] e (context_of old)) (unnoted_walk e (context_of old)) (state_of old.flow)) (sym is)) one
 
 -- where they don't
-pub unnoted-goes : (e : Expr) (known : Known) {old new : Walk} → has (context_of old).version Growths ≡ false → WalkGoes (value_walk e) old new known
-    → WalkGoes (assigned_walk e) old new (record { known = known; noted = [] })
-unnoted-goes e known {old = old} {new = new} is one =
-    goes-here (unnoted_walk e) (assigned_walk e)
+pub unnoted-goes : (extension : Extension) (e : Expr) (known : Known) {old new : Walk} → has (context_of old).version extension ≡ false
+    → WalkGoes (value_walk e) old new known
+    → WalkGoes (noted_where extension e) old new (record { known = known; noted = [] })
+unnoted-goes extension e known {old = old} {new = new} is one =
+    goes-here (unnoted_walk e) (noted_where extension e)
     (ap (λ (b : Bool). cond b (noting_walk [] e (context_of old)) (unnoted_walk e (context_of old)) (state_of old.flow)) (sym is))
     (record {
       unless_short = λ long.
@@ -211,8 +213,8 @@ unnoted-goes e known {old = old} {new = new} is one =
 pub assignment-goes : (assignment : Assignment) (indexes : List Expr) (selectors : List Selector) (reach held : Reach) (told : Valued) (passed : Known)
     {old reached valued tested new : Walk}
     → indexes ≡ assignment.indexes.items → WalkGoes (access_walk assignment.target (index_pieces indexes)) old reached reach
-    → WalkGoes (assigned_walk assignment.value) reached valued told → WalkGoes (fitting assignment.fits told.known) valued tested passed
-    → selectors ≡ assignment.target.selectors.items → held ≡ reach_stored tested.flow.grounds.version selectors (holds_call assignment.value) reach
+    → WalkGoes (noted_where Growths assignment.value) reached valued told → WalkGoes (fitting assignment.fits told.known) valued tested passed
+    → selectors ≡ assignment.target.selectors.items → held ≡ reach_stored (context_of tested) selectors (piece_of assignment.value ∷ []) reach
     → WalkGoes (assign_value assignment held told.noted passed) tested new tt
     → WalkGoes (from_entry assignment.number (assignment_walk assignment)) old new tt
 assignment-goes assignment indexes _ reach held told passed {old = old} {tested = tested} {new = new} indexes_are accessed valued fits selectors_are
@@ -220,44 +222,42 @@ assignment-goes assignment indexes _ reach held told passed {old = old} {tested 
     let target = assignment.target in
     let own = target.selectors.items in
     let store : Reach → List Noted → Known → Walking (Unit {0}) =
-    λ reach notes passed context. assign_value assignment (reach_stored context.version own (holds_call assignment.value) reach) notes passed context in
-    let version = tested.flow.grounds.version in
-    let same : held ≡ reach_stored version own (holds_call assignment.value) reach =
-    held_is ∙ ap (λ (s : List Selector). reach_stored version s (holds_call assignment.value) reach) selectors_are in
+    λ reach notes passed context. assign_value assignment (reach_stored context own (piece_of assignment.value ∷ []) reach) notes passed context in
+    let same : held ≡ reach_stored (context_of tested) own (piece_of assignment.value ∷ []) reach =
+    held_is ∙ ap (λ (s : List Selector). reach_stored (context_of tested) s (piece_of assignment.value ∷ []) reach) selectors_are in
     let stored : WalkGoes (store reach told.noted passed) tested new tt =
     goes-here (assign_value assignment held told.noted passed) (store reach told.noted passed)
     (ap (λ (r : Reach). assign_value assignment r told.noted passed (context_of tested) (state_of tested.flow)) same) stores in
     let from_access : List Expr → Walking (Unit {0}) =
     λ some. access_walk target (index_pieces some)
-    >>= λ reach. assigned_walk assignment.value >>= λ told. fitting assignment.fits told.known >>= store reach told.noted in
+    >>= λ reach. noted_where Growths assignment.value >>= λ told. fitting assignment.fits told.known >>= store reach told.noted in
     goes-from_entry assignment.number (assignment_walk assignment)
     (goes-here (from_access indexes) (assignment_walk assignment)
     (ap (λ (some : List Expr). from_access some (context_of old) (state_of old.flow)) indexes_are)
     (goes-then (access_walk target (index_pieces indexes))
-    (λ reach. assigned_walk assignment.value >>= λ told. fitting assignment.fits told.known >>= store reach told.noted)
+    (λ reach. noted_where Growths assignment.value >>= λ told. fitting assignment.fits told.known >>= store reach told.noted)
     accessed
-    (goes-then (assigned_walk assignment.value) (λ told. fitting assignment.fits told.known >>= store reach told.noted) valued
+    (goes-then (noted_where Growths assignment.value) (λ told. fitting assignment.fits told.known >>= store reach told.noted) valued
     (goes-then (fitting assignment.fits told.known) (store reach told.noted) fits stored))))
 
 -- an assignment of a whole value, likewise
-pub copying-goes : (copying : Copying) (indexes more : List Expr) (selectors : List Selector) (hold : Bool) (reach held : Reach) (ranges : List Interval)
+pub copying-goes : (copying : Copying) (indexes more later : List Expr) (selectors : List Selector) (reach held : Reach) (ranges : List Interval)
     {old reached valued new : Walk}
     → indexes ≡ copying.indexes.items → WalkGoes (access_walk copying.target (index_pieces indexes)) old reached reach
     → more ≡ copying.value_indexes.items → WalkGoes (whole_walk copying.value (index_pieces more)) reached valued ranges
-    → selectors ≡ copying.target.selectors.items → hold ≡ whole_holds_call copying.value copying.value_indexes.items
-    → held ≡ reach_stored valued.flow.grounds.version selectors hold reach
+    → selectors ≡ copying.target.selectors.items → later ≡ copying.value_indexes.items
+    → held ≡ reach_stored (context_of valued) selectors (index_pieces later) reach
     → WalkGoes (copy_to copying.becomes (origin_of copying.target) copying.target.selectors.items held ranges) valued new tt
     → WalkGoes (from_entry copying.number (copying_walk copying)) old new tt
-copying-goes copying indexes more _ hold reach held ranges {old = old} {valued = valued} {new = new} indexes_are accessed more_are whole selectors_are
-    hold_is held_is stores =
+copying-goes copying indexes more later _ reach held ranges {old = old} {valued = valued} {new = new} indexes_are accessed more_are whole selectors_are
+    later_are held_is stores =
     let target = copying.target in
     let own = target.selectors.items in
     let store : Reach → List Interval → Walking (Unit {0}) =
     λ reach ranges context. copy_to copying.becomes (origin_of target) own
-    (reach_stored context.version own (whole_holds_call copying.value copying.value_indexes.items) reach) ranges context in
-    let version = valued.flow.grounds.version in
-    let same : held ≡ reach_stored version own (whole_holds_call copying.value copying.value_indexes.items) reach =
-    held_is ∙ ap₂ (λ (s : List Selector) (h : Bool). reach_stored version s h reach) selectors_are hold_is in
+    (reach_stored context own (index_pieces copying.value_indexes.items) reach) ranges context in
+    let same : held ≡ reach_stored (context_of valued) own (index_pieces copying.value_indexes.items) reach =
+    held_is ∙ ap₂ (λ (s : List Selector) (l : List Expr). reach_stored (context_of valued) s (index_pieces l) reach) selectors_are later_are in
     let stored : WalkGoes (store reach ranges) valued new tt =
     goes-here (copy_to copying.becomes (origin_of target) own held ranges) (store reach ranges)
     (ap (λ (r : Reach). copy_to copying.becomes (origin_of target) own r ranges (context_of valued) (state_of valued.flow)) same) stores in

@@ -27,7 +27,6 @@ use Rattle.typed_tree.specs.declared.tree.Stmt.TheOpen.Stmt-F.{Empty, Assign, Co
 use Rattle.typed_tree.specs.declared.tree.Stmt.TheFolds.{map-Stmt, fold-roll-Stmt, ind-Stmt}
 use Rattle.typed_tree.specs.declared.tree.Stmt.TheViews.{roll-Stmt}
 use Rattle.typed_tree.specs.Accesses.{Origin, AtVariable, origin_of, root_of}
-use Rattle.typed_tree.specs.Calls.{holds_call, whole_holds_call}
 use Rattle.typed_tree.specs.Records.{Begin, OpenRecord, accesses_begin, all_begin, begins, begins_in, is_there, opened_by, parameter_begins, statement_begins}
 use Rattle.typed_tree.specs.Records.{read_begins, value_begins, with_begins}
 use Rattle.typed_tree.specs.WellFormed.{all_hold, are_whole, is_control, is_local_kind, is_result_kind, is_well_formed_expr, is_well_formed_stmt}
@@ -57,13 +56,14 @@ use Rattle.checker_loops.specs.Ways.{Way, way_of, way_out, where_counts}
 use Rattle.checker_loops.specs.Sections.{BlockClaims}
 use Rattle.checker_loops.specs.Starts.{is_own}
 use Rattle.checker_expressions.specs.declared.fault.Rule.TheVariants.{Changes, LoopEntry, LoopTurn}
-use Rattle.checker_expressions.specs.Walk.{Context, Walking, may_change, value_walk}
+use Rattle.checker_expressions.specs.Walk.{Context, Valued, Walking, may_change, value_walk}
 use Rattle.checker_expressions.specs.Walk as flow
 use Rattle.checker_state.specs.Growths.{without_turns}
+use Rattle.domain.specs.declared.versions.Extension.TheVariants.{Growths, Sides}
 use Rattle.checker_loops.specs.Loops.{claims_at}
 use Rattle.checker_expressions.specs.declared.noting.Noted.{Noted}
-use Rattle.cert_checker.specs.Steps.{assigned_walk, value_step}
-use Rattle.cert_checker.proofs.AssignedValues.{assigned-yields}
+use Rattle.cert_checker.specs.Steps.{noted_where, value_step}
+use Rattle.cert_checker.proofs.AssignedValues.{noted-yields}
 use Rattle.cert_checker.specs.Walk.{Stores, assign, assign_to, is_whole_variable, statement_step, statement_walk, store_to, stores_made}
 use Rattle.cert_checker.specs.Walk as walk
 use Rattle.checker_expressions.proofs.EffectsKept.{CanGive, IsOwn, Keeps, MayWriteTo, Standing, own-write, under-write, keeps-enter, keeps-give}
@@ -298,7 +298,7 @@ module _ (tree : Tree) (blocks : List BlockClaims) (declares : DeclareTheirs tre
           let own = and_parts (all_begin (map begins indexes) opened) (is_there opened (origin_of access)) begin in
           let both = yields-then context (flow.access_walk access (flow.index_pieces indexes)) (walk.read_value name one) tt yields in
           let may = may-assign context (walk.point_place context.tree one.point name) (origin_of access) selectors
-          (walk.reach_stored context.version selectors false both.0) None None (limits_of one.range)
+          (walk.reach_stored context selectors [] both.0) None None (limits_of one.range)
           (record { state = both.2.state; unbroken = both.2.unbroken; value_is = both.2.value_is }) in
           keeps-when at _ _ (access-kept tree blocks declares block at grounds calls leave opened places lie access indexes context both.0 stands own.0 both.1)
           (λ place given. keeps-then at _ _ (keeps-read_as at one.reads one.point)
@@ -324,21 +324,21 @@ module _ (tree : Tree) (blocks : List BlockClaims) (declares : DeclareTheirs tre
           let indexes = assignment.indexes.items in
           let fits = assignment.fits in
           let value = assignment.value in
-          let held = λ (own : Context) (reach : Reach). walk.reach_stored own.version target.selectors.items (holds_call value) reach in
+          let held = λ (own : Context) (reach : Reach). walk.reach_stored own target.selectors.items (flow.piece_of value ∷ []) reach in
           let assigned = λ (reach : Reach) (notes : List Noted) (passed : Known) (own : Context).
           walk.assign_value assignment (held own reach) notes passed own in
           let there = and_parts (accesses_begin target indexes opened) (begins value opened) begin in
           let own = and_parts (all_begin (map begins indexes) opened) (is_there opened (origin_of target)) there.0 in
           let one = yields-then context (flow.access_walk target (flow.index_pieces indexes))
-          (λ reach. flow.◌>>=◌ (assigned_walk value) (λ told. flow.◌>>=◌ (flow.fitting fits told.known) (assigned reach told.noted))) tt yields in
-          let two = yields-then context (assigned_walk value) (λ told. flow.◌>>=◌ (flow.fitting fits told.known) (assigned one.0 told.noted)) tt one.2 in
+          (λ reach. flow.◌>>=◌ (noted_where Growths value) (λ told. flow.◌>>=◌ (flow.fitting fits told.known) (assigned reach told.noted))) tt yields in
+          let two = yields-then context (noted_where Growths value) (λ told. flow.◌>>=◌ (flow.fitting fits told.known) (assigned one.0 told.noted)) tt one.2 in
           let three = yields-then context (flow.fitting fits two.0.known) (assigned one.0 two.0.noted) tt two.2 in
           let may = may-assign context assignment.becomes (origin_of target) target.selectors.items (held context one.0)
           (bound_form (is_ordinal_variable context.tree) context.version value) (value_step context.tree (root_of (origin_of target)) value two.0.noted)
           (known_range three.0)
           (record { state = three.2.state; unbroken = three.2.unbroken; value_is = three.2.value_is }) in
           keeps-when at _ _ (access-kept tree blocks declares block at grounds calls leave opened places lie target indexes context one.0 stands own.0 one.1)
-          (λ place given. keeps-then at _ _ (keeps-value value context two.0.known stands there.1 (assigned-yields value context two.0 two.1))
+          (λ place given. keeps-then at _ _ (keeps-value value context two.0.known stands there.1 (noted-yields Growths value context two.0 two.1))
           (λ v. keeps-then at _ _ (keeps-require at (is_in fits.range v) fits.site)
           (λ _. keeps-store at place v (write-accessed target indexes context stands may own.1 place given))))
 
@@ -353,7 +353,7 @@ module _ (tree : Tree) (blocks : List BlockClaims) (declares : DeclareTheirs tre
           let indexes = copying.indexes.items in
           let value = copying.value in
           let value_indexes = copying.value_indexes.items in
-          let held = λ (own : Context) (reach : Reach). walk.reach_stored own.version target.selectors.items (whole_holds_call value value_indexes) reach in
+          let held = λ (own : Context) (reach : Reach). walk.reach_stored own target.selectors.items (flow.index_pieces value_indexes) reach in
           let copied = λ (reach : Reach) (ranges : List Interval) (own : Context).
           walk.copy_to copying.becomes (origin_of target) target.selectors.items (held own reach) ranges own in
           let there = and_parts (accesses_begin target indexes opened) (value_begins value value_indexes opened) begin in
@@ -378,17 +378,17 @@ module _ (tree : Tree) (blocks : List BlockClaims) (declares : DeclareTheirs tre
           → Keeps at (effect.looped (meaning.while_round (value_of condition) execution here) tt)
       keeps-while own condition begin execution walking kept number place context stands yields =
           let round = yields-round tree blocks block context stands number place None (walk.while_round own condition walking) yields in
-          let end = λ (known : Known) (tested : State) (_ : Unit {0}). flow.give (walk.where_so own false condition known tested) in
-          let from_tested = λ (known : Known) (tested : State).
+          let end = λ (known : Valued) (tested : State) (_ : Unit {0}). flow.give (walk.where_so own false condition known tested) in
+          let from_tested = λ (known : Valued) (tested : State).
           flow.◌>>=◌ (flow.with_state (walk.where_so own true condition known tested)) (λ _. flow.◌>>=◌ walking (end known tested)) in
-          let one = yields-then round.inner (value_walk condition) (λ known. flow.◌>>=◌ walk.here (from_tested known)) round.behind round.yields in
+          let one = yields-then round.inner (walk.condition_walk condition) (λ known. flow.◌>>=◌ walk.here (from_tested known)) round.behind round.yields in
           let two = yields-then round.inner walk.here (from_tested one.0) round.behind one.2 in
           let three = yields-then round.inner (flow.with_state (walk.where_so own true condition one.0 two.0))
           (λ _. flow.◌>>=◌ walking (end one.0 two.0)) round.behind two.2 in
           let four = yields-then round.inner walking (end one.0 two.0) round.behind three.2 in
           let body = kept round.inner round.stands four.1 in
           keeps-looped at (meaning.while_round (value_of condition) execution here)
-          (λ start. keeps-then at _ _ (keeps-value condition round.inner one.0 round.stands begin one.1)
+          (λ start. keeps-then at _ _ (keeps-value condition round.inner one.0.known round.stands begin (noted-yields Sides condition round.inner one.0 one.1))
           (λ v. keeps-turn_if (meaning.is_so v) (execution here) body)) tt
 
       keeps-repeat : (own : Tree) (condition : Expr) → begins condition opened ≡ true → (execution : Execution) (walking : Walking (Unit {0}))
@@ -397,16 +397,16 @@ module _ (tree : Tree) (blocks : List BlockClaims) (declares : DeclareTheirs tre
           → Keeps at (effect.looped (meaning.repeat_round execution (value_of condition) here) tt)
       keeps-repeat own condition begin execution walking kept number place context stands yields =
           let round = yields-round tree blocks block context stands number place None (walk.repeat_round own walking condition) yields in
-          let from_tested = λ (known : Known) (tested : State).
+          let from_tested = λ (known : Valued) (tested : State).
           flow.◌>>=◌ (flow.with_state (walk.where_so own false condition known tested)) (λ _. flow.give (walk.where_so own true condition known tested)) in
-          let from_known = λ (known : Known). flow.◌>>=◌ walk.here (from_tested known) in
-          let one = yields-then round.inner walking (λ _. flow.◌>>=◌ (value_walk condition) from_known) round.behind round.yields in
-          let two = yields-then round.inner (value_walk condition) from_known round.behind one.2 in
+          let from_known = λ (known : Valued). flow.◌>>=◌ walk.here (from_tested known) in
+          let one = yields-then round.inner walking (λ _. flow.◌>>=◌ (walk.condition_walk condition) from_known) round.behind round.yields in
+          let two = yields-then round.inner (walk.condition_walk condition) from_known round.behind one.2 in
           let body = kept round.inner round.stands one.1 in
           keeps-looped at (meaning.repeat_round execution (value_of condition) here)
           (λ start. keeps-then at _ _ (keeps-turn at)
           (λ _. keeps-then at _ _ body
-          (λ _. keeps-then at _ _ (keeps-value condition round.inner two.0 round.stands begin two.1)
+          (λ _. keeps-then at _ _ (keeps-value condition round.inner two.0.known round.stands begin (noted-yields Sides condition round.inner two.0 two.1))
           (λ v. keeps-give at (if meaning.is_so v then None else Some tt))))) tt
 
       -- ---- for statements
@@ -547,13 +547,13 @@ module _ (tree : Tree) (blocks : List BlockClaims) (declares : DeclareTheirs tre
           let each = and_parts (well_stmt consequence.value.0) true parts.1 in
           let there = and_parts (begins condition opened) (begins_in consequence.value.0 opened && true) begin in
           let each_there = and_parts (begins_in consequence.value.0 opened) true there.1 in
-          let branches = λ (known : Known) (own : Context). walk.branches own.tree condition first (flow.give tt) known own in
-          let one = yields-then context (flow.enter number) (λ _. flow.◌>>=◌ (value_walk condition) branches) tt yields in
-          let two = yields-then context (value_walk condition) branches tt one.2 in
+          let branches = λ (known : Valued) (own : Context). walk.branches own.tree condition first (flow.give tt) known own in
+          let one = yields-then context (flow.enter number) (λ _. flow.◌>>=◌ (walk.condition_walk condition) branches) tt yields in
+          let two = yields-then context (walk.condition_walk condition) branches tt one.2 in
           let both = yields-parted context (walk.where_so context.tree true condition two.0) (walk.where_so context.tree false condition two.0) first
           (flow.give tt) (record { state = two.2.state; unbroken = two.2.unbroken; value_is = two.2.value_is }) in
           keeps-then at _ _ (keeps-enter at number at.visible)
-          (λ _. keeps-then at _ _ (keeps-value condition context two.0 stands there.0 two.1)
+          (λ _. keeps-then at _ _ (keeps-value condition context two.0.known stands there.0 (noted-yields Sides condition context two.0 two.1))
           (λ v. keeps-chosen (meaning.is_so v) (effect_of consequence.value.0 here) (give tt)
           (one-kept consequence.value each.0 each_there.0 context stands both.0)
           (keeps-give at tt)))
@@ -564,13 +564,13 @@ module _ (tree : Tree) (blocks : List BlockClaims) (declares : DeclareTheirs tre
           let each = and_parts (well_stmt consequence.value.0) (well_stmt alternative.value.0) parts.1 in
           let there = and_parts (begins condition opened) (begins_in consequence.value.0 opened && begins_in alternative.value.0 opened) begin in
           let each_there = and_parts (begins_in consequence.value.0 opened) (begins_in alternative.value.0 opened) there.1 in
-          let branches = λ (known : Known) (own : Context). walk.branches own.tree condition first second known own in
-          let one = yields-then context (flow.enter number) (λ _. flow.◌>>=◌ (value_walk condition) branches) tt yields in
-          let two = yields-then context (value_walk condition) branches tt one.2 in
+          let branches = λ (known : Valued) (own : Context). walk.branches own.tree condition first second known own in
+          let one = yields-then context (flow.enter number) (λ _. flow.◌>>=◌ (walk.condition_walk condition) branches) tt yields in
+          let two = yields-then context (walk.condition_walk condition) branches tt one.2 in
           let both = yields-parted context (walk.where_so context.tree true condition two.0) (walk.where_so context.tree false condition two.0) first second
           (record { state = two.2.state; unbroken = two.2.unbroken; value_is = two.2.value_is }) in
           keeps-then at _ _ (keeps-enter at number at.visible)
-          (λ _. keeps-then at _ _ (keeps-value condition context two.0 stands there.0 two.1)
+          (λ _. keeps-then at _ _ (keeps-value condition context two.0.known stands there.0 (noted-yields Sides condition context two.0 two.1))
           (λ v. keeps-chosen (meaning.is_so v) (effect_of consequence.value.0 here) (effect_of alternative.value.0 here)
           (one-kept consequence.value each.0 each_there.0 context stands both.0) (one-kept alternative.value each.1 each_there.1 context stands both.1)))
       layer (While head body) well begin context stands yields =

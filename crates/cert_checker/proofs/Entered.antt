@@ -16,7 +16,6 @@ use Rattle.typed_tree.specs.declared.tree.Stmt.TheOpen.{Stmt-F}
 use Rattle.typed_tree.specs.declared.tree.Stmt.TheOpen.Stmt-F.{Empty, Assign, Copy, Write, Compound, If, While, Repeat, For, Case, With, Read}
 use Rattle.typed_tree.specs.declared.tree.Stmt.TheOpen.Stmt-F.{Call as Calling}
 use Rattle.typed_tree.specs.declared.tree.FunctionResult.{FunctionResult}
-use Rattle.typed_tree.specs.Calls.{holds_call}
 use Rattle.typed_tree.specs.declared.tree.Stmt.TheFolds.{map-Stmt, fold-roll-Stmt, ind-Stmt}
 use Rattle.typed_tree.specs.declared.tree.Tree.{Tree}
 use Rattle.typed_tree.specs.declared.tree.Block.{Block}
@@ -42,16 +41,19 @@ use Rattle.std.specs.declared.vec.Vec.{Vec}
 use Rattle.checker_state.specs.Conditions.{bound_form}
 use Rattle.checker_loops.specs.Cases.{arm_start, constants_before}
 use Rattle.place.specs.declared.Place.{Place}
-use Rattle.checker_expressions.specs.Walk.{Context, Walking, ◌>>=◌, access_walk, index_pieces, numbers_of, fitting, value_walk, parameter_walk, whole_walk}
+use Rattle.checker_expressions.specs.Walk.{Context, Walking, ◌>>=◌, access_walk, index_pieces, numbers_of, fitting, piece_of, value_walk}
+use Rattle.checker_expressions.specs.Walk.{parameter_walk, whole_walk}
 use Rattle.cert_checker.specs.Walk.{first_context, assign_component, assign_entire, assign_to, assign_value, arms_walk, case_walk, for_round, for_turns}
 use Rattle.cert_checker.specs.Walk.{for_walk, index_test, loop_walk, steady_in}
-use Rattle.cert_checker.specs.Walk.{tested_way, while_round, repeat_round, statement_step, statement_walk, where_so, all_of, block_walk, blocks_walk}
+use Rattle.cert_checker.specs.Walk.{condition_walk, tested_way, while_round, repeat_round, statement_step, statement_walk, where_so, all_of, block_walk}
+use Rattle.cert_checker.specs.Walk.{blocks_walk}
 use Rattle.cert_checker.specs.Walk.{index_root, is_whole_variable, point_place, read_value, read_walk, record_walk}
 use Rattle.domain.specs.Facts.{Fact}
 use Rattle.checker_loops.specs.Growths.{Turns, growths_begun}
+use Rattle.domain.specs.declared.versions.Extension.TheVariants.{Growths, Sides}
 use Rattle.checker_expressions.specs.Walk.{Valued}
-use Rattle.cert_checker.specs.Steps.{assigned_walk, value_step}
-use Rattle.cert_checker.proofs.AssignedValues.{assigned-entered}
+use Rattle.cert_checker.specs.Steps.{noted_where, value_step}
+use Rattle.cert_checker.proofs.AssignedValues.{noted-entered}
 use Rattle.cert_checker.specs.Walk.{turns_in, begin_way, program_walk, reach_stored, result_use}
 use Rattle.checker_expressions.proofs.Entered.{Enters, access-entered, and_no_more, and_then, call-entered, parameter-entered, value-entered, whole-entered}
 
@@ -60,7 +62,7 @@ abbrev stores : Assignment → Reach → Valued → Walking (Unit {0})
 stores assignment reach told =
     fitting assignment.fits told.known
     >>= λ passed context. assign_value assignment
-    (reach_stored context.version assignment.target.selectors.items (holds_call assignment.value) reach) told.noted passed context
+    (reach_stored context assignment.target.selectors.items (piece_of assignment.value ∷ []) reach) told.noted passed context
 
 -- what enters nothing either way
 either-silent : (test : Bool) (one other : Walking (Unit {0})) → Enters one [] → Enters other [] → Enters (if test then one else other) []
@@ -78,7 +80,7 @@ stores-silent assignment reach told context state =
     let target = assignment.target in
     let passed = fitting assignment.fits told.known context state in
     assigned-silent assignment.becomes (origin_of target) target.selectors.items
-    (reach_stored context.version target.selectors.items (holds_call assignment.value) reach)
+    (reach_stored context target.selectors.items (piece_of assignment.value ∷ []) reach)
     (bound_form (is_ordinal_variable context.tree) context.version assignment.value)
     (value_step context.tree (accesses.root_of (origin_of target)) assignment.value told.noted) (known_range passed.value) context passed.after
 
@@ -117,7 +119,7 @@ read-entered name one context state =
     let rest = read_value name one reached.value context reached.after in
     and_no_more reached.linked rest.linked _ (access-entered access one.indexes.items context state)
     (assigned-silent (point_place context.tree one.point name) (origin_of access) selectors
-    (reach_stored context.version selectors false reached.value) None None (limits_of one.range) context reached.after)
+    (reach_stored context selectors [] reached.value) None None (limits_of one.range) context reached.after)
 
 -- a loop enters what a round of it does
 loop-entered : (number : ℕ) (place : Place) (control : Option ℕ) (round : Walking State) (numbers : List ℕ) → Enters round numbers
@@ -176,18 +178,18 @@ case-entered tree head arms known context state =
 while-entered : (tree : Tree) (condition : Expr) (body : Walking (Unit {0})) (numbers : List ℕ) → Enters body numbers
     → Enters (while_round tree condition body) (entries_of_expression condition ++ numbers)
 while-entered tree condition body numbers each context state =
-    let first = value_walk condition context state in
+    let first = condition_walk condition context state in
     let start = where_so tree true condition first.value first.after in
-    and_then first.linked ((body context start).linked ++ []) (entries_of_expression condition) numbers (value-entered condition context state)
+    and_then first.linked ((body context start).linked ++ []) (entries_of_expression condition) numbers (noted-entered Sides condition context state)
     (and_no_more (body context start).linked [] numbers (each context start) refl)
 
 repeat-entered : (tree : Tree) (body : Walking (Unit {0})) (condition : Expr) (numbers : List ℕ) → Enters body numbers
     → Enters (repeat_round tree body condition) (numbers ++ entries_of_expression condition)
 repeat-entered tree body condition numbers each context state =
     let first = body context state in
-    let tested = value_walk condition context first.after in
+    let tested = condition_walk condition context first.after in
     and_then first.linked (tested.linked ++ []) numbers (entries_of_expression condition) (each context state)
-    (and_no_more tested.linked [] (entries_of_expression condition) (value-entered condition context first.after) refl)
+    (and_no_more tested.linked [] (entries_of_expression condition) (noted-entered Sides condition context first.after) refl)
 
 statement-parts : (y : Stmt-F EnteredStmt)
     → Enters (statement_step (map-Stmt Stmt (Walking (Unit {0})) statement_walk (map-Stmt EnteredStmt Stmt (λ s. s.0) y)))
@@ -195,11 +197,11 @@ statement-parts : (y : Stmt-F EnteredStmt)
 statement-parts (Empty number) context state = refl
 statement-parts (Assign assignment) context state =
     let reached = access_walk assignment.target (index_pieces assignment.indexes.items) context state in
-    let first = assigned_walk assignment.value context reached.after in
+    let first = noted_where Growths assignment.value context reached.after in
     let rest = stores assignment reached.value first.value context first.after in
     ap (λ numbers. assignment.number ∷ numbers)
     (and_then reached.linked (first.linked ++ rest.linked) _ _ (access-entered assignment.target assignment.indexes.items context state)
-    (and_no_more first.linked rest.linked _ (assigned-entered assignment.value context reached.after)
+    (and_no_more first.linked rest.linked _ (noted-entered Growths assignment.value context reached.after)
     (stores-silent assignment reached.value first.value context first.after)))
 statement-parts (Copy copying) context state =
     let reached = access_walk copying.target (index_pieces copying.indexes.items) context state in
@@ -215,17 +217,17 @@ statement-parts (Read reading) context state =
 statement-parts (Calling calling) context state = call-entered calling.call calling.actuals.items context state
 statement-parts (Compound number statements) context state = ap (λ numbers. number ∷ numbers) (statements-entered statements.items context state)
 statement-parts (If number condition consequence None) context state =
-    let first = value_walk condition context state in
+    let first = condition_walk condition context state in
     let yes = statement_walk consequence.value.0 context (where_so context.tree true condition first.value first.after) in
     ap (λ numbers. number ∷ numbers)
-    (and_then first.linked (yes.linked ++ []) _ _ (value-entered condition context state)
+    (and_then first.linked (yes.linked ++ []) _ _ (noted-entered Sides condition context state)
     (and_then yes.linked [] _ _ (consequence.value.1 context (where_so context.tree true condition first.value first.after)) refl))
 statement-parts (If number condition consequence (Some alternative)) context state =
-    let first = value_walk condition context state in
+    let first = condition_walk condition context state in
     let yes = statement_walk consequence.value.0 context (where_so context.tree true condition first.value first.after) in
     let no = statement_walk alternative.value.0 context (where_so context.tree false condition first.value first.after) in
     ap (λ numbers. number ∷ numbers)
-    (and_then first.linked (yes.linked ++ no.linked) _ _ (value-entered condition context state)
+    (and_then first.linked (yes.linked ++ no.linked) _ _ (noted-entered Sides condition context state)
     (and_then yes.linked no.linked _ _ (consequence.value.1 context (where_so context.tree true condition first.value first.after))
     (alternative.value.1 context (where_so context.tree false condition first.value first.after))))
 statement-parts (While head body) context state =

@@ -47,3 +47,4 @@ mod SoundSteps
 mod FinishedTurns
 mod Integers
 mod AssignedValues
+mod SoundConditions

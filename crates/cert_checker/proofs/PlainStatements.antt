@@ -24,7 +24,6 @@ use Rattle.typed_tree.specs.declared.tree.Stmt.TheOpen.Stmt-F.{Call as Calling}
 use Rattle.typed_tree.specs.declared.tree.Stmt.TheViews.{roll-Stmt}
 use Rattle.typed_tree.specs.declared.tree.Stmt.TheFolds.{map-Stmt, fold-roll-Stmt, ind-Stmt}
 use Rattle.typed_tree.specs.Accesses.{Origin, origin_of, root_of}
-use Rattle.typed_tree.specs.Calls.{holds_call, whole_holds_call}
 use Rattle.typed_tree.specs.Loops.{AreLoops, AreLoopsOf, Inside, IsLoop, LoopControls, all_inside, inside_of, loops_of_block, statement_inside}
 use Rattle.typed_tree.specs.WellFormed.{Outline, all_hold, are_few_cells, are_well_formed, are_well_formed_blocks, has_values, is_heading}
 use Rattle.typed_tree.specs.WellFormed.{is_visible, is_well_formed_block, is_well_formed_expr, is_well_formed_parameter, is_well_formed_read}
@@ -46,17 +45,18 @@ use Rattle.checker_loops.specs.Starts.{block_start}
 use Rattle.checker_loops.specs.Ways.{Way, turn_begun, turn_ended, way_of, where_counts}
 use Rattle.checker_expressions.specs.declared.fault.Rule.{Rule}
 use Rattle.checker_expressions.specs.declared.fault.Rule.TheVariants.{LoopEntry, LoopTurn, Exit, Changes}
-use Rattle.checker_expressions.specs.Walk.{Walking, access_walk, breach_unless, fitting, index_pieces, may_change, parameter_walk, value_walk}
+use Rattle.checker_expressions.specs.Walk.{Walking, access_walk, breach_unless, fitting, index_pieces, may_change, parameter_walk, piece_of, value_walk}
 use Rattle.checker_expressions.specs.Walk.{whole_walk}
 use Rattle.cert_checker.specs.Plain.{PlainIsAccepted}
 use Rattle.cert_checker.specs.Walk.{all_of, arms_walk, assign_component, assign_entire, assign_to, assign_value, begin_way, block_walk, blocks_walk, case_walk}
 use Rattle.cert_checker.specs.Walk.{copy_to, first_context, for_round, for_turns, for_walk, index_root, index_test, is_whole_variable, loop_walk, point_place}
 use Rattle.cert_checker.specs.Walk.{reach_stored, read_value, read_walk, record_walk, repeat_round, result_use, statement_step, statement_walk}
-use Rattle.cert_checker.specs.Walk.{steady_in, tested_way, where_so, while_round}
+use Rattle.cert_checker.specs.Walk.{condition_walk, steady_in, tested_way, where_so, while_round}
 use Rattle.checker_loops.specs.Growths.{Turns, all_can_begin, all_have_turned, growths_begun}
-use Rattle.cert_checker.specs.Steps.{assigned_walk, value_step}
+use Rattle.domain.specs.declared.versions.Extension.TheVariants.{Growths, Sides}
+use Rattle.cert_checker.specs.Steps.{noted_where, value_step}
 use Rattle.cert_checker.specs.Walk.{turns_in}
-use Rattle.cert_checker.proofs.AssignedValues.{assigned-breaks}
+use Rattle.cert_checker.proofs.AssignedValues.{noted-breaks}
 use Rattle.cert_checker.proofs.PlainLists.{AreWide, IsPlain, at, exit-none, facts-none, listed, may-change, of_block, wider}
 use Rattle.cert_checker.proofs.PlainExpressions.{Keeps, Wide, access-kept, here, none-asked, none-more, parameter-kept, procedure-kept, value-kept, whole-kept}
 
@@ -135,7 +135,7 @@ module _ (tree : Tree) (certificate : Certificate) (plain : IsPlain tree certifi
       let reached = access_walk one.access (index_pieces one.indexes.items) context state in
       let rest = read_value name one reached.value context reached.after in
       none-more reached.broken rest.broken (access-kept tree certificate plain block one.access one.indexes.items both.0 rounds wide state)
-      (assigned-kept (point_place tree one.point name) origin selectors (reach_stored context.version selectors false reached.value) None None
+      (assigned-kept (point_place tree one.point name) origin selectors (reach_stored context selectors [] reached.value) None None
       (limits_of one.range)
       (leads-seen (has_values outline.types one.range) origin selectors n leads.0) rounds wide reached.after)
 
@@ -168,9 +168,10 @@ module _ (tree : Tree) (certificate : Certificate) (plain : IsPlain tree certifi
       → Keeps tree certificate plain block (while_round tree condition body)
   while-kept condition body well each rounds wide state =
       let context = here tree certificate plain block rounds in
-      let first = value_walk condition context state in
+      let first = condition_walk condition context state in
       let start = where_so tree true condition first.value first.after in
-      none-more first.broken ((body context start).broken ++ []) (value-kept tree certificate plain block condition well rounds wide state)
+      none-more first.broken ((body context start).broken ++ []) (noted-breaks Sides condition context state ∙ value-kept tree certificate plain block condition
+      well rounds wide state)
       (none-more (body context start).broken [] (each rounds wide start) refl)
 
   repeat-kept : (body : Walking (Unit {0})) (condition : Expr) → is_well_formed_expr outline block condition ≡ true → KeepsIn body
@@ -178,9 +179,10 @@ module _ (tree : Tree) (certificate : Certificate) (plain : IsPlain tree certifi
   repeat-kept body condition well each rounds wide state =
       let context = here tree certificate plain block rounds in
       let first = body context state in
-      let tested = value_walk condition context first.after in
+      let tested = condition_walk condition context first.after in
       none-more first.broken (tested.broken ++ []) (each rounds wide state)
-      (none-more tested.broken [] (value-kept tree certificate plain block condition well rounds wide first.after) refl)
+      (none-more tested.broken [] (noted-breaks Sides condition context first.after ∙ value-kept tree certificate plain block condition well rounds wide
+      first.after) refl)
 
   module _ (head : ForHead) (told : LoopControls) (is : IsLoop rows block (head.loop_number, told)) (body : Walking (Unit {0})) (each : KeepsIn body) where
     for_round-kept : (turns : Turns) (place : Place) (facts : List Fact) (way : Way) → facts ≡ []
@@ -271,14 +273,14 @@ module _ (tree : Tree) (certificate : Certificate) (plain : IsPlain tree certifi
       let two = and_parts (leads_to outline block (is_scalar outline.types) origin selectors n) _ one.1 in
       let three = and_parts (is_well_formed_expr outline block assignment.value) _ two.1 in
       let reached = access_walk target (index_pieces assignment.indexes.items) context state in
-      let value = assigned_walk assignment.value context reached.after in
+      let value = noted_where Growths assignment.value context reached.after in
       let passed = fitting assignment.fits value.value.known context value.after in
-      let reach = reach_stored context.version selectors (holds_call assignment.value) reached.value in
+      let reach = reach_stored context selectors (piece_of assignment.value ∷ []) reached.value in
       let last = assign_value assignment reach value.value.noted passed.value context passed.after in
       none-more reached.broken (value.broken ++ last.broken)
       (access-kept tree certificate plain block target assignment.indexes.items one.0 rounds wide state)
       (none-more value.broken last.broken
-      (assigned-breaks assignment.value context reached.after ∙ value-kept tree certificate plain block assignment.value three.0 rounds wide reached.after)
+      (noted-breaks Growths assignment.value context reached.after ∙ value-kept tree certificate plain block assignment.value three.0 rounds wide reached.after)
       (assigned-kept assignment.becomes origin selectors reach (bound_form (is_ordinal_variable tree) context.version assignment.value)
       (value_step tree (root_of origin) assignment.value value.value.noted) (known_range passed.value)
       (leads-seen (is_scalar outline.types) origin selectors n two.0) rounds wide passed.after))
@@ -294,8 +296,8 @@ module _ (tree : Tree) (certificate : Certificate) (plain : IsPlain tree certifi
       let three = and_parts (is_well_formed_value outline block copying.value copying.value_indexes.items) _ two.1 in
       let reached = access_walk target (index_pieces copying.indexes.items) context state in
       let value = whole_walk copying.value (index_pieces copying.value_indexes.items) context reached.after in
-      let hold = whole_holds_call copying.value copying.value_indexes.items in
-      let last = copy_to copying.becomes origin selectors (reach_stored context.version selectors hold reached.value) value.value context value.after in
+      let later = index_pieces copying.value_indexes.items in
+      let last = copy_to copying.becomes origin selectors (reach_stored context selectors later reached.value) value.value context value.after in
       none-more reached.broken (value.broken ++ last.broken)
       (access-kept tree certificate plain block target copying.indexes.items one.0 rounds wide state)
       (none-more value.broken last.broken (whole-kept tree certificate plain block copying.value copying.value_indexes.items three.0 rounds wide reached.after)
@@ -314,22 +316,24 @@ module _ (tree : Tree) (certificate : Certificate) (plain : IsPlain tree certifi
       let one = and_parts (is_well_formed_expr outline block condition) _ well in
       let two = and_parts (is_well_formed_stmt outline block consequence.value.0) true one.1 in
       let split = loops-split rows block (inside_of consequence.value.0).loops [] loops in
-      let first = value_walk condition context state in
+      let first = condition_walk condition context state in
       let start = where_so tree true condition first.value first.after in
       let yes = statement_walk consequence.value.0 context start in
-      none-more first.broken (yes.broken ++ []) (value-kept tree certificate plain block condition one.0 rounds wide state)
+      none-more first.broken (yes.broken ++ []) (noted-breaks Sides condition context state ∙ value-kept tree certificate plain block condition one.0 rounds
+      wide state)
       (none-more yes.broken [] (consequence.value.1 two.0 split.0 rounds wide start) refl)
   parts-kept (If number condition consequence (Some alternative)) well loops rounds wide state =
       let context = here tree certificate plain block rounds in
       let one = and_parts (is_well_formed_expr outline block condition) _ well in
       let two = and_parts (is_well_formed_stmt outline block consequence.value.0) (is_well_formed_stmt outline block alternative.value.0) one.1 in
       let split = loops-split rows block (inside_of consequence.value.0).loops (inside_of alternative.value.0).loops loops in
-      let first = value_walk condition context state in
+      let first = condition_walk condition context state in
       let start = where_so tree true condition first.value first.after in
       let other = where_so tree false condition first.value first.after in
       let then_walked = statement_walk consequence.value.0 context start in
       let else_walked = statement_walk alternative.value.0 context other in
-      none-more first.broken (then_walked.broken ++ else_walked.broken) (value-kept tree certificate plain block condition one.0 rounds wide state)
+      none-more first.broken (then_walked.broken ++ else_walked.broken) (noted-breaks Sides condition context state ∙ value-kept tree certificate plain block
+      condition one.0 rounds wide state)
       (none-more then_walked.broken else_walked.broken (consequence.value.1 two.0 split.0 rounds wide start)
       (alternative.value.1 two.1 split.1 rounds wide other))
   parts-kept (While head body) well loops rounds wide state =

@@ -1,10 +1,10 @@
 -- Assignments are sound: the target is accessed, the value is evaluated and tested, and then it is stored.
 use Rattle.std.proofs.Common.{arith, ◌≡◌, ◌∙◌, sym, ap, refl, subst, ℕ, zero, suc, ◌<◌, Bool, true, false, cond, not, ◌&&◌, nat_lt, length, List, [], ◌∷◌, ◌++◌}
-use Rattle.std.proofs.Common.{map, Option, Some, None}
+use Rattle.std.proofs.Common.{append-nil, map, Option, Some, None}
 use Rattle.std.specs.List.{Contains}
 use Rattle.std.specs.Option.{option_and_then, option_map}
 use Rattle.std.specs.Prelude.{is_some}
-use Rattle.std.proofs.lemmas.Bool.{and_parts, false≢true, ltb-true}
+use Rattle.std.proofs.lemmas.Bool.{and_parts, false≢true, ltb-true, or_parts}
 use Rattle.std.proofs.lemmas.Option.{same_Some}
 use Rattle.types.proofs.Scalars.{scalar_component}
 use Rattle.types.specs.Components.{components_of}
@@ -36,7 +36,7 @@ use Rattle.checker_state.specs.Bounds.{Bound}
 use Rattle.domain.specs.Interval.{Interval}
 use Rattle.domain.specs.declared.versions.Version.{Version}
 use Rattle.domain.specs.Versions.{has}
-use Rattle.domain.specs.declared.versions.Extension.TheVariants.{Boxes}
+use Rattle.domain.specs.declared.versions.Extension.TheVariants.{Boxes, Calls, Growths}
 use Rattle.meaning.specs.declared.value.Value.{Value}
 use Rattle.meaning.specs.Kinds.{IsOf}
 use Rattle.meaning.specs.Store.{Environment, Place as StorePlace, Store, part}
@@ -46,11 +46,16 @@ use Rattle.meaning.specs.Meaning.{Surroundings, accessed, value_of, values_of}
 use Rattle.checker_state.specs.Conditions.{bound_form}
 use Rattle.checker_state.specs.Holds.{IsIn, moment}
 use Rattle.checker_state.specs.Knows.{IsOfForm, IsStep}
+use Rattle.checker_state.specs.State.{State}
 use Rattle.checker_state.specs.Values.{IsKnown, known_range}
 use Rattle.checker_state.proofs.Valued.{values-tell}
+use Rattle.checker_expressions.proofs.BehindCalls.{AndLeft, IsLeft, piece-leaves, reached-behind, sound-left}
+use Rattle.checker_expressions.proofs.Forms.{form-same}
 use Rattle.checker_expressions.proofs.Opened.{AreOpen}
+use Rattle.checker_expressions.proofs.OtherLoops.{AreListed, expression-alike}
 use Rattle.checker_expressions.proofs.Scalars.{known-of}
-use Rattle.checker_expressions.proofs.Sound.{Any_value, Good, SoundCalls, SoundFrom, World, declared_in, from-held, from-then, good-weaker, is_seen}
+use Rattle.checker_expressions.proofs.Sound.{Any_value, Good, IsHeld, IsPartOf, SoundCalls, SoundFrom, SoundGoes, World, declared_in, from-held, from-then}
+use Rattle.checker_expressions.proofs.Sound.{good-weaker, is_seen}
 use Rattle.checker_expressions.proofs.Sound.{kept-rule, ordinal_in, sites_in, sound-anywhere, sound-by_tree, sound-here, types_in, unbroken-left}
 use Rattle.checker_state.proofs.Refined.{expression-kept, forms-tell}
 use Rattle.checker_rows.specs.Limits.{limits_or_integer, row_limits}
@@ -58,25 +63,28 @@ use Rattle.checker_rows.specs.Rows.{is_ordinal_variable, rows_accessed, rows_of,
 use Rattle.checker_rows.proofs.Numbered.{own-values}
 use Rattle.checker_rows.proofs.Components.{Has, only}
 use Rattle.checker_state.specs.Stores.{Reach}
-use Rattle.checker_loops.specs.Loops.{all_list}
+use Rattle.checker_loops.specs.Loops.{Round, all_list}
 use Rattle.checker_loops.proofs.VariableRows.{empty-way, variable-accessed}
+use Rattle.checker_calls.specs.Actuals.{unknown_reach}
 use Rattle.checker_calls.specs.Environments.{LiesIn, type_led}
 use Rattle.checker_calls.proofs.Origins.{rows-same}
 use Rattle.checker_calls.proofs.Passed.{indexes-integer, reached-later, AreComponentsOf, IsReachedBy}
 use Rattle.checker_expressions.specs.declared.fault.Rule.TheVariants.{Changes}
 use Rattle.checker_expressions.proofs.Fitting.{passed-lies}
 use Rattle.checker_expressions.specs.Walk as flow
-use Rattle.checker_expressions.specs.Walk.{Context, Valued, Walked, Walking, followed, may_change, scalar_of, value_walk}
+use Rattle.checker_expressions.specs.Walk.{Calling, Context, Piece, Valued, Walked, Walking, callees_of, calls_in, followed, hold_call, may_change, piece_of}
+use Rattle.checker_expressions.specs.Walk.{reach_before, reach_behind, scalar_of, value_walk}
 use Rattle.checker_expressions.proofs.SoundAccesses.{LeadsTo, leads-seen, part-none, required-leaves, required-true, type-of}
-use Rattle.checker_expressions.proofs.SoundCalls.{CallLaws}
-use Rattle.checker_expressions.proofs.SoundExpressions.{SoundAction, access-sound}
+use Rattle.checker_expressions.proofs.SoundCalls.{CallLaws, by-world}
+use Rattle.checker_expressions.proofs.SoundExpressions.{SoundAction, access-sound, value-sound}
 use Rattle.checker_expressions.proofs.SoundOperations.{IsFitting, fitting-sound}
 use Rattle.checker_rows.proofs.Accessed.{rows-are}
 use Rattle.checker_rows.proofs.Selected.{Matches}
 use Rattle.cert_checker.specs.Walk as walk
-use Rattle.cert_checker.specs.Walk.{Stores, alike, ends_at_index, is_some_index, is_whole_variable, reach_before, reach_of_store, reach_stored}
+use Rattle.cert_checker.specs.Walk.{Stores, alike, ends_at_index, is_some_index, is_whole_variable, reach_of_store, reach_stored}
 use Rattle.checker_expressions.specs.declared.noting.Noted.{Noted}
-use Rattle.cert_checker.specs.Steps.{assigned_walk, value_step}
+use Rattle.cert_checker.specs.Steps.{noted_where, value_step}
+use Rattle.cert_checker.proofs.AssignedValues.{noted-breaks, noted-valued}
 use Rattle.cert_checker.proofs.SoundSteps.{IsAssigned, assigned-sound}
 use Rattle.cert_checker.proofs.Changes.{LiesInVariable}
 use Rattle.cert_checker.proofs.Targets.{alike-at, alike-targets}
@@ -131,12 +139,28 @@ stored-version version env store own all way reach reached = by (has version Box
     by true = reached
     by false = stored-reached env store own all way reach reached
 
--- what is reached when a value was evaluated behind the access
-pub reached-then : (version : Version) (world : World) (block : ℕ) (env : Surroundings) (before after : Store) (origin : Origin)
-    (selectors : List Selector) (reach : Reach) (place : Option StorePlace) (hold : Bool) → (hold ≡ false → after ≡ before)
+-- an expression alone
+alone-quiet : (e : Expr) → hold_call (piece_of e ∷ []) ≡ false → holds_call e ≡ false
+alone-quiet e quiet = sym (form-same e).holds ∙ (or_parts (piece_of e).holds_call false quiet).0
+
+one-listed : (context : Context) (rounds : List Round) (calls : List Calling) → AreListed context rounds (calls ++ []) → AreListed context rounds calls
+one-listed context rounds calls listed = subst (AreListed context rounds) (append-nil calls) listed
+
+-- what is walked to a value that is assigned is part of a world with what is walked to the value
+assigned-part : (world : World) (e : Expr) (context : Context) (state : State) → IsPartOf world (noted_where Growths e context state)
+    → IsPartOf world (value_walk e context state)
+assigned-part world e context state part =
+    let (notes, same) = noted-valued Growths e context state in
+    let own : IsPartOf world (flow.valued notes (value_walk e context state)) = subst (λ (w : Walked Valued). IsPartOf world w) same part in
+    record { ids = own.ids; linked = own.linked }
+
+-- what is reached when expressions were evaluated behind the access, of which this was left
+pub reached-then : (context : Context) (world : World) (block : ℕ) (env : Surroundings) (before after : Store) (origin : Origin)
+    (selectors : List Selector) (reach : Reach) (place : Option StorePlace) (later : List Piece) → SoundGoes world context
+    → (hold_call later ≡ false → after ≡ before) → IsLeft world (calls_in later) env.visible before after
     → LeadsTo world block env origin selectors reach place before
-    → LeadsTo world block env origin selectors (reach_stored version selectors hold reach) place after
-reached-then version world block env before after origin selectors reach place hold stays leads_to =
+    → LeadsTo world block env origin selectors (reach_stored context selectors later reach) place after
+reached-then context world block env before after origin selectors reach place later goes stays left leads_to =
     let leads = leads_to.leads in
     record {
       leads = record {
@@ -145,17 +169,22 @@ reached-then version world block env before after origin selectors reach place h
         way = leads.way;
         place_is = leads.place_is;
         matches = leads.matches;
-        reached = stored-version version env.visible after selectors leads.all leads.way (reach_before hold reach) (by hold stays);
+        reached = stored-version context.version env.visible after selectors leads.all leads.way (reach_before context later reach)
+            (by (has context.version Calls) (hold_call later) stays);
       };
       tests = leads_to.tests;
       typed = leads_to.typed;
     }
   where
-    by : (hold : Bool) → (hold ≡ false → after ≡ before)
-        → IsReachedBy env.visible after leads_to.leads.all leads_to.leads.way (reach_before hold reach)
-    by false stays =
+    by : (apart hold : Bool) → (hold ≡ false → after ≡ before) → IsReachedBy env.visible after leads_to.leads.all leads_to.leads.way
+        (cond apart (reach_behind (callees_of context) (calls_in later) reach) (cond hold (unknown_reach reach) reach))
+    by true hold stays =
+        by-world world context
+        (λ (own : Context). IsReachedBy env.visible after leads_to.leads.all leads_to.leads.way (reach_behind (callees_of own) (calls_in later) reach)) goes
+        (reached-behind world (calls_in later) env.visible before after left leads_to.leads.all leads_to.leads.way reach leads_to.leads.reached)
+    by false false stays =
         subst (λ (store : Store). IsReachedBy env.visible store leads_to.leads.all leads_to.leads.way reach) (sym (stays refl)) leads_to.leads.reached
-    by true stays =
+    by false true stays =
         reached-later world.tree env.visible before after leads_to.leads.all leads_to.leads.way reach
         (indexes-integer (outline_of world.tree) block leads_to.leads.all leads_to.leads.way leads_to.tests leads_to.leads.matches) leads_to.leads.reached
 
@@ -337,8 +366,11 @@ module _ (world : World) (block : ℕ) (env : Surroundings) (records : List Open
     abbrev target_selectors : List Selector
     target_selectors = assignment.target.selectors.items
 
-    abbrev held : Version → Reach → Reach
-    held version = reach_stored version target_selectors (holds_call assignment.value)
+    abbrev later : List Piece
+    later = piece_of assignment.value ∷ []
+
+    abbrev held : Context → Reach → Reach
+    held context = reach_stored context target_selectors later
 
     -- its form in the program
     abbrev own_form : (ordinal : ℕ → Bool) → Version → Option Bound
@@ -348,17 +380,18 @@ module _ (world : World) (block : ℕ) (env : Surroundings) (records : List Open
     abbrev walked-store : Reach → Valued → Walking (Unit {0})
     walked-store reach told =
         flow.◌>>=◌ (flow.fitting assignment.fits told.known)
-        (λ passed context. walk.assign_value assignment (held context.version reach) told.noted passed context)
+        (λ passed context. walk.assign_value assignment (held context reach) told.noted passed context)
 
     -- its step in a program
     abbrev own_step : Tree → List Noted → Option Interval
     own_step tree notes = value_step tree (root_of target_origin) assignment.value notes
 
     abbrev walked-value : Reach → Walking (Unit {0})
-    walked-value reach = flow.◌>>=◌ (assigned_walk assignment.value) (walked-store reach)
+    walked-value reach = flow.◌>>=◌ (noted_where Growths assignment.value) (walked-store reach)
 
     module _ (reach : Reach) (place : Option StorePlace) where
-      test-sound : (store : Store) → ((version : Version) → LeadsTo world block env target_origin target_selectors (held version reach) place store)
+      test-sound : (store : Store)
+          → ((context : Context) → SoundGoes world context → LeadsTo world block env target_origin target_selectors (held context reach) place store)
           → (valued : Valued) (v : Value)
           → IsKnown valued.known v → scalar_of valued.known ≡ assignment.fits.tests
           → ((version : Version) → IsOfForm (moment visible store) (own_form (ordinal_in world) version) v)
@@ -371,25 +404,25 @@ module _ (world : World) (block : ℕ) (env : Surroundings) (records : List Open
           let fits = assignment.fits in
           let test = effect.require (is_in fits.range v) fits.site in
           from-then world block visible store (IsFitting known v) Any_value test (λ tested. effect.store place v) (flow.fitting fits known)
-          (λ passed context. walk.assign_value assignment (held context.version reach) notes passed context)
+          (λ passed context. walk.assign_value assignment (held context reach) notes passed context)
           (sound-here world block visible store (IsFitting known v) test (flow.fitting fits known)
           (fitting-sound world block visible fits known v below inside))
-          (λ passed done s t is from told at.
+          (λ passed done s t is from told at state s2 same unbroken part here.
           let form = own_form (ordinal_in world) at.version in
           let stays : t.store ≡ store = required-leaves (is_in fits.range v) fits.site s t done is ∙ from in
           let own = passed-typed world target_origin target_selectors fits v typed (required-true (is_in fits.range v) fits.site s t done is)
           (subst (λ (one : Scalar). IsOf one v) of_kind (known-of known v inside)) in
           sound-by_tree world block visible t.store Any_value (effect.store place v)
-          (λ (tree : Tree). walk.assign_to assignment.becomes target_origin target_selectors (held at.version reach) (own_form
+          (λ (tree : Tree). walk.assign_to assignment.becomes target_origin target_selectors (held at reach) (own_form
           (is_ordinal_variable tree) at.version)
           (own_step tree notes)
           (known_range passed))
-          (value-stored assignment.becomes target_origin target_selectors own.0 own.1 v own.2 seen (held at.version reach) place (known_range passed)
+          (value-stored assignment.becomes target_origin target_selectors own.0 own.1 v own.2 seen (held at reach) place (known_range passed)
           (values-tell.in_range passed v told.0) t.store
-          (subst (λ (x : Store). LeadsTo world block env target_origin target_selectors (held at.version reach) place x) (sym stays)
-          (leads at.version)) form step
+          (subst (λ (x : Store). LeadsTo world block env target_origin target_selectors (held at reach) place x) (sym stays)
+          (leads at here.stands.goes)) form step
           (subst (λ (x : Store). IsOfForm (moment visible x) form v) (sym stays) (of_form at.version))
-          (subst (λ (x : Store). IsStep (moment visible x) (root_of target_origin) step v) (sym stays) is_step)) at)
+          (subst (λ (x : Store). IsStep (moment visible x) (root_of target_origin) step v) (sym stays) is_step)) at state s2 same unbroken part here)
 
       from-value : (store : Store) → LeadsTo world block env target_origin target_selectors reach place store
           → SoundFrom {A = Unit {0}} {B = Unit {0}} world block visible store Any_value
@@ -398,16 +431,22 @@ module _ (world : World) (block : ℕ) (env : Surroundings) (records : List Open
           let value = assignment.value in
           let one = assignment.fits.tests in
           let Given = IsAssigned world block env records opened laws calls one value in
-          from-held world block visible store Given Any_value (value_of value env) (tested-store place assignment.fits) (assigned_walk value)
-          (walked-store reach)
-          (sound-here world block visible store Given (value_of value env) (assigned_walk value)
-          (assigned-sound world block env records opened laws calls value one value_well held_so begin))
-          (λ valued v s t is from given numbers.
+          let inner = calls_in later in
+          from-held world block visible store (AndLeft world inner visible store Given) Any_value (value_of value env) (tested-store place assignment.fits)
+          (noted_where Growths value) (walked-store reach)
+          (sound-left world inner block visible store Given (value_of value env) (noted_where Growths value)
+          (assigned-sound world block env records opened laws calls value one value_well held_so begin)
+          (λ context state s t v unbroken part.
+          piece-leaves world inner block visible (IsHeld one) (value_of value env) (value_walk value)
+          (value-sound world block env records opened laws calls value one value_well held_so begin)
+          (λ own rounds listed. expression-alike own rounds value (one-listed own rounds (piece_of value).calls listed)) context state s t v
+          (sym (noted-breaks Growths value context state) ∙ unbroken) (assigned-part world value context state part)))
+          (λ valued v s t is from (given, left) numbers.
           let inside = given.held in
           test-sound t.store
-          (λ version.
-          reached-then version world block env store t.store target_origin target_selectors reach place (holds_call value)
-          (λ quiet. expression-kept value quiet env s t v is ∙ from) leads) valued v inside.0 inside.1
+          (λ context goes.
+          reached-then context world block env store t.store target_origin target_selectors reach place later goes
+          (λ quiet. expression-kept value (alone-quiet value quiet) env s t v is ∙ from) left leads) valued v inside.0 inside.1
           (λ version. forms-tell (ordinal_in world) version value env s t v is numbers) (given.steps (root_of target_origin) numbers))
 
   pub assignment-sound : (assignment : Assignment) → stmt_is_well_formed outline block (Assign assignment) ≡ true

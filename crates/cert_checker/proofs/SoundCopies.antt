@@ -1,5 +1,5 @@
 -- Copies of whole values are sound: the target is accessed, and then come the components, which are stored side by side.
-use Rattle.std.proofs.Common.{◌≡◌, ◌∙◌, sym, ap, subst, ℕ, Bool, true, ◌&&◌, length, List, Option, Some}
+use Rattle.std.proofs.Common.{◌≡◌, ◌∙◌, sym, ap, refl, subst, ℕ, Bool, true, false, ◌&&◌, length, List, Option, Some}
 use Rattle.std.proofs.lemmas.Bool.{and_parts}
 use Rattle.types.specs.Components.{components_of}
 use Rattle.types.specs.Forms.{Form}
@@ -19,6 +19,7 @@ use Rattle.typed_tree.specs.declared.tree.Selector.{Selector}
 use Rattle.typed_tree.specs.declared.tree.Stmt.TheOpen.Stmt-F.{Copy}
 use Rattle.typed_tree.specs.declared.tree.Tree.{Tree}
 use Rattle.typed_tree.specs.declared.tree.Whole.{Whole}
+use Rattle.typed_tree.specs.declared.tree.Whole.TheVariants.{Text, Variable as VariableOf}
 use Rattle.domain.specs.Interval.{Interval}
 use Rattle.meaning.specs.declared.value.Value.{Value}
 use Rattle.meaning.specs.Store.{Environment, Place as StorePlace, Store}
@@ -36,7 +37,10 @@ use Rattle.checker_expressions.specs.Walk.{Context}
 use Rattle.checker_expressions.proofs.Fitting.{copy-for, same-type}
 use Rattle.checker_expressions.proofs.Sound.{Any_value, Good, SoundCalls, SoundFrom, World, declared_in, from-then, is_seen, sound-anywhere, sound-here}
 use Rattle.checker_expressions.proofs.Sound.{types_in}
+use Rattle.checker_expressions.proofs.BehindCalls.{AndLeft, piece-leaves, sound-left}
+use Rattle.checker_expressions.proofs.Forms.{indexes-hold}
 use Rattle.checker_expressions.proofs.Opened.{AreOpen}
+use Rattle.checker_expressions.proofs.OtherLoops.{whole-alike}
 use Rattle.checker_expressions.proofs.SoundAccesses.{IsWholeIn, LeadsTo, leads-seen, leads-type, type-of}
 use Rattle.checker_expressions.proofs.SoundCalls.{CallLaws}
 use Rattle.checker_expressions.proofs.SoundExpressions.{SoundAction, access-sound, whole_value-sound}
@@ -47,6 +51,11 @@ use Rattle.cert_checker.specs.Walk.{paired, reach_stored}
 use Rattle.cert_checker.proofs.SoundAssignments.{reached-then}
 use Rattle.cert_checker.proofs.Targets.{paired-at, paired-targets, structured-whole}
 use Rattle.cert_checker.proofs.Written.{Fit, Foretold, stores-good}
+
+-- a whole value whose index expressions hold no call
+whole-quiet : (value : Whole) (indexes : List Expr) → flow.hold_call (flow.index_pieces indexes) ≡ false → whole_holds_call value indexes ≡ false
+whole-quiet (Text number characters) indexes quiet = refl
+whole-quiet (VariableOf access type_id cells defined) indexes quiet = sym (indexes-hold indexes) ∙ quiet
 
 module _ (world : World) (block : ℕ) (env : Surroundings) (records : List OpenRecord) (opened : AreOpen world block env.visible records env.records)
     (laws : CallLaws world) (calls : SoundCalls world env.calls) where
@@ -155,9 +164,12 @@ module _ (world : World) (block : ℕ) (env : Surroundings) (records : List Open
       let next = λ (place : Option StorePlace). effect.◌>>=◌ whole (stored place) in
       let walking = flow.access_walk copying.target (flow.index_pieces indexes) in
       let whole_walking = flow.whole_walk value (flow.index_pieces value_indexes) in
-      let hold = whole_holds_call value value_indexes in
+      let later = flow.index_pieces value_indexes in
+      let inner = flow.calls_in later in
       let copy = λ (reach : Reach) (copied : List Interval) (own : Context).
-      walk.copy_to copying.becomes origin selectors (reach_stored own.version selectors hold reach) copied own in
+      walk.copy_to copying.becomes origin selectors (reach_stored own selectors later reach) copied own in
+      let Given = IsWholeIn world block env value in
+      let whole_sound = whole_value-sound world block env records opened laws calls value value_indexes three.0 kinds.1 begun.1 in
       let walk_next = λ (reach : Reach). flow.◌>>=◌ whole_walking (copy reach) in
       sound-anywhere {A = Unit {0}} {B = Unit {0}} world block visible Any_value (effect.◌>>=◌ action next) (flow.◌>>=◌ walking walk_next)
       (λ store.
@@ -165,12 +177,13 @@ module _ (world : World) (block : ℕ) (env : Surroundings) (records : List Open
       (sound-here world block visible store leads action walking
       (access-sound world block env records opened laws calls copying.target indexes wanted one.0 two.0 kinds.0 begun.0))
       (λ reach place s t is from led.
-      from-then {C = Unit {0}} {D = Unit {0}} world block visible t.store (IsWholeIn world block env value) Any_value whole (stored place) whole_walking
-      (copy reach)
-      (sound-here world block visible t.store (IsWholeIn world block env value) whole whole_walking
-      (whole_value-sound world block env records opened laws calls value value_indexes three.0 kinds.1 begun.1))
-      (λ ranges values s2 u gives same told at.
+      from-then {C = Unit {0}} {D = Unit {0}} world block visible t.store (AndLeft world inner visible t.store Given) Any_value whole (stored place)
+      whole_walking (copy reach)
+      (sound-left world inner block visible t.store Given whole whole_walking whole_sound
+      (piece-leaves world inner block visible Given whole whole_walking whole_sound (λ own rounds. whole-alike own rounds value value_indexes)))
+      (λ ranges values s2 u gives same (told, left) at state s3 now unbroken part here.
       copy-stored origin selectors type_id leads_is copying.becomes seen value (length value_indexes) (well-whole value value_indexes three.0) three.1
-      (reach_stored at.version selectors hold reach) place ranges values told u.store
-      (reached-then at.version world block env t.store u.store origin selectors reach place hold
-      (λ quiet. whole-kept value value_indexes quiet env s2 u values gives ∙ same) led) at)))
+      (reach_stored at selectors later reach) place ranges values told u.store
+      (reached-then at world block env t.store u.store origin selectors reach place later here.stands.goes
+      (λ quiet. whole-kept value value_indexes (whole-quiet value value_indexes quiet) env s2 u values gives ∙ same) left led) at state s3 now unbroken part
+      here)))

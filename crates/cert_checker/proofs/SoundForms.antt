@@ -71,6 +71,7 @@ use Rattle.checker_state.specs.Loops.{is_among}
 use Rattle.checker_loops.specs.Ways.{form_before, way_of}
 use Rattle.checker_loops.proofs.OnWay.{of-form_may}
 use Rattle.checker_expressions.specs.Walk as flow
+use Rattle.cert_checker.proofs.SoundConditions.{condition-sound}
 use Rattle.checker_expressions.specs.Walk.{Context, Walked, Walking, followed, parameter_walk, passed_piece_of, value_walk}
 use Rattle.checker_expressions.proofs.Keeping.{keeps-then}
 use Rattle.checker_expressions.proofs.SoundAccesses.{leads-type}
@@ -366,13 +367,13 @@ module _ (world : World) (block : ℕ) (own_block : Block)
         → SoundAmong {A = Unit {0}} {B = Unit {0}} controls world block visible Any_value
         (effect.◌>>=◌ (effect.enter number visible) (λ done. effect.◌>>=◌ (value_of condition env) (λ v. cond (is_so v) consequence alternative)))
         (flow.◌>>=◌ (flow.enter number)
-        (λ done. flow.◌>>=◌ (value_walk condition) (λ known context. walk.branches context.tree condition true_walk false_walk known context)))
+        (λ done. flow.◌>>=◌ (walk.condition_walk condition) (λ known context. walk.branches context.tree condition true_walk false_walk known context)))
     choice-sound controls number condition consequence alternative true_walk false_walk well taken begin one other =
         entered-among controls number
         (effect.◌>>=◌ (value_of condition env) (λ v. cond (is_so v) consequence alternative))
-        (flow.◌>>=◌ (value_walk condition) (λ known context. walk.branches context.tree condition true_walk false_walk known context))
+        (flow.◌>>=◌ (walk.condition_walk condition) (λ known context. walk.branches context.tree condition true_walk false_walk known context))
         (sound-choice controls world block env condition consequence alternative true_walk false_walk
-        (ordinal-sound condition well taken begin) one other)
+        (condition-sound world block env records opened laws calls condition well taken begin) one other)
 
     -- the test of a bound has the range of the control variable's type
     control-tested : (control : ℕ) (fits : RangeTest) → fits_target outline block fits (AtVariable control) [] ≡ true
@@ -758,7 +759,7 @@ module _ (world : World) (block : ℕ) (own_block : Block)
         (inside-entire head.loop_number told (controls-ordinal world.tree block body.value.0 parts.1) loop)
         (loop.0, loop.1, loop.2) (inside-told world.tree block head.loop_number told loop) (kind-told world.tree block head.loop_number told loop)
         (λ a. sound-while inside.controls world block env head.condition (effect_of body.value.0) (statement_walk body.value.0)
-        (ordinal-sound head.condition parts.0 kinds.0 there.0)
+        (condition-sound world block env records opened laws calls head.condition parts.0 kinds.0 there.0)
         (one-sound body.value (record { well = parts.1; held = kinds.1; begin = there.1 }) own))))
     layer-here (Repeat head statements) is text =
         let inner = map (λ (s : ProvedStmt). s.0) statements.items in
@@ -787,7 +788,7 @@ module _ (world : World) (block : ℕ) (own_block : Block)
         (loop.0, loop.1, loop.2) (inside-told world.tree block head.loop_number told loop) (kind-told world.tree block head.loop_number told loop)
         (λ a. sound-repeat inside.controls world block env head.condition body turned
         (all-sound statements.items (record { well = parts.0; held = kinds.0; begin = there.0 }) own)
-        (ordinal-sound head.condition parts.1 kinds.1 there.1))))
+        (condition-sound world block env records opened laws calls head.condition parts.1 kinds.1 there.1))))
     layer-here (For head body) is text =
         let control = head.control in
         let first = head.first in

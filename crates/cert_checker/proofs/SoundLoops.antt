@@ -45,8 +45,11 @@ use Rattle.checker_calls.proofs.Given.{given-claims}
 use Rattle.checker_calls.proofs.Numbers.{hold-numbers}
 use Rattle.checker_expressions.specs.Walk as flow
 use Rattle.cert_checker.specs.Walk as walk
-use Rattle.checker_expressions.specs.Walk.{Context, Walked, Walking, followed, value_walk}
-use Rattle.cert_checker.specs.Walk.{where_so}
+use Rattle.checker_expressions.specs.Walk.{Context, Valued, Walked, Walking, followed}
+use Rattle.cert_checker.specs.Walk.{condition_walk, where_so}
+use Rattle.checker_state.specs.Conditions.{branched}
+use Rattle.checker_state.specs.Values.{known_range}
+use Rattle.cert_checker.proofs.SoundConditions.{IsTested}
 use Rattle.checker_expressions.proofs.Keeping.{Keeps, keeps-itself, keeps-then}
 use Rattle.cert_checker.proofs.Heads.{head-of_known}
 use Rattle.cert_checker.proofs.Rounds.{StandsIn, goes-inside, loop-closed}
@@ -112,15 +115,23 @@ numbers-here world block env context state s here =
 -- ---- branches
 
 -- where a condition has a truth value, what is known of it holds
-pub chosen-here : (world : World) (block : ℕ) (env : Surroundings) (condition : Expr) (known : Known) (v : Value) (s t : effect.State) (context : Context)
-    (state : State) → value_of condition env s ≡ effect.Gives v t → IsHeld scalar.Ordinal known v t.store → Here world block env.visible context state t
-    → Here world block env.visible context (where_so world.tree (is_so v) condition known state) t
-chosen-here world block env condition (Ordinal range) (Number n) s t context state is inside here =
-    here-as world block env.visible context state (where_so world.tree (is_so (Number n)) condition (Ordinal range) state) t here
-    (conditions-tell (parts_in world) (table_of world.tree) (are-rows world.tree) (ordinal_in world) env condition s t n range state is inside.0
-    (numbers-here world block env.visible context state t here) here.stands.known)
-chosen-here world block env condition (Ordinal range) (Members set) s t context state is inside here = absurd inside.0
-chosen-here world block env condition (Set hull) v s t context state is inside here = absurd (let other = inside.1 in cc)
+pub chosen-here : (world : World) (block : ℕ) (env : Surroundings) (condition : Expr) (told : Valued) (v : Value) (s t : effect.State) (context : Context)
+    (state : State) → value_of condition env s ≡ effect.Gives v t → IsTested world env.visible condition told v t.store
+    → Here world block env.visible context state t
+    → Here world block env.visible context (where_so world.tree (is_so v) condition told state) t
+chosen-here world block env condition told v s t context state is tested here =
+    let numbers = numbers-here world block env.visible context state t here in
+    here-as world block env.visible context state (where_so world.tree (is_so v) condition told state) t here
+    (tested.sides numbers (branched (ordinal_in world) (is_so v) condition (known_range told.known) state)
+    (by told.known v is tested.held))
+  where
+    by : (known : Known) (v : Value) → value_of condition env s ≡ effect.Gives v t → IsHeld scalar.Ordinal known v t.store
+        → Knows (parts_in world) (variables_in world) env.visible (branched (ordinal_in world) (is_so v) condition (known_range known) state) t.store
+    by (Ordinal range) (Number n) is inside =
+        conditions-tell (parts_in world) (table_of world.tree) (are-rows world.tree) (ordinal_in world) env condition s t n range state is inside.0
+        (numbers-here world block env.visible context state t here) here.stands.known
+    by (Ordinal range) (Members set) is inside = absurd inside.0
+    by (Set hull) v is inside = absurd (let other = inside.1 in cc)
 
 -- behind one of two ways the joined state holds
 abbrev JoinedKnown : World → Environment → State → State → Store → Tree → Type 0
@@ -183,7 +194,7 @@ ways-good world block few env proper one_action other_action one other false con
 -- the choice of a branch by a truth value
 chosen-good : (controls : List ℕ) (world : World) (block : ℕ) (env : Environment) (one_action other_action : Action (Unit {0})) (condition : Expr)
     (consequence alternative : Walking (Unit {0}))
-    (known : Known) (b : Bool) (context : Context) (state : State) (t : effect.State)
+    (known : Valued) (b : Bool) (context : Context) (state : State) (t : effect.State)
     → SoundAmong {A = Unit {0}} {B = Unit {0}} controls world block env Any_value one_action consequence
     → SoundAmong {A = Unit {0}} {B = Unit {0}} controls world block env Any_value other_action alternative
     → AreControlled controls env context → (walk.branches world.tree condition consequence alternative known context state).broken ≡ []
@@ -200,19 +211,19 @@ chosen-good controls world block env one_action other_action condition consequen
 
 module _ (controls : List ℕ) (world : World) (block : ℕ) (env : Surroundings) (condition : Expr) (one_action other_action : Action (Unit {0}))
     (consequence alternative : Walking (Unit {0}))
-    (valued : Sound world block env.visible (IsHeld scalar.Ordinal) (value_of condition env) (value_walk condition))
+    (valued : Sound world block env.visible (IsTested world env.visible condition) (value_of condition env) (condition_walk condition))
     (one : SoundAmong {A = Unit {0}} {B = Unit {0}} controls world block env.visible Any_value one_action consequence)
     (other : SoundAmong {A = Unit {0}} {B = Unit {0}} controls world block env.visible Any_value other_action alternative) where
   abbrev choice : Action (Unit {0})
   choice = effect.◌>>=◌ (value_of condition env) (λ v. cond (is_so v) one_action other_action)
 
   sound-chosen : SoundAmong {A = Unit {0}} {B = Unit {0}} controls world block env.visible Any_value choice
-      (flow.◌>>=◌ (value_walk condition) (walk.branches world.tree condition consequence alternative))
+      (flow.◌>>=◌ (condition_walk condition) (walk.branches world.tree condition consequence alternative))
   sound-chosen context state s held unbroken part here =
       let visible = env.visible in
-      let first = value_walk condition context state in
+      let first = condition_walk condition context state in
       let second = walk.branches world.tree condition consequence alternative first.value context first.after in
-      good-then world (IsForetold world visible (IsHeld scalar.Ordinal) context first s.store)
+      good-then world (IsForetold world visible (IsTested world visible condition) context first s.store)
       (Foretold world visible context (followed first second) s.store) s (value_of condition env s) (λ v. cond (is_so v) one_action other_action)
       (valued context state s (unbroken-left first.broken second.broken unbroken) (part-left world first second part) here)
       (λ v t is told.
@@ -226,14 +237,14 @@ module _ (controls : List ℕ) (world : World) (block : ℕ) (env : Surroundings
       (chosen-good controls world block visible one_action other_action condition consequence alternative first.value (is_so v) context first.after t one
       other held (unbroken-right first.broken second.broken unbroken) (part-right world first second part)
       (chosen-here world block env condition first.value v s t context first.after is told.so.tie
-      (here-behind world block visible (IsHeld scalar.Ordinal) context state first s t v here told))))
+      (here-behind world block visible (IsTested world visible condition) context state first s t v here told))))
 
   -- a condition, and then one of two branches
   pub sound-choice : SoundAmong {A = Unit {0}} {B = Unit {0}} controls world block env.visible Any_value choice
-      (flow.◌>>=◌ (value_walk condition) (λ known context. walk.branches context.tree condition consequence alternative known context))
+      (flow.◌>>=◌ (condition_walk condition) (λ known context. walk.branches context.tree condition consequence alternative known context))
   sound-choice =
       among-by_tree controls world block env.visible choice
-      (λ (tree : Tree). flow.◌>>=◌ (value_walk condition) (walk.branches tree condition consequence alternative)) sound-chosen
+      (λ (tree : Tree). flow.◌>>=◌ (condition_walk condition) (walk.branches tree condition consequence alternative)) sound-chosen
 
 -- ---- loops in general
 
@@ -541,9 +552,9 @@ turn-then world Q next t fine then =
 
 -- a round of a while
 module _ (controls : List ℕ) (world : World) (block : ℕ) (env : Surroundings) (condition : Expr) (execution : meaning.Execution) (body : Walking (Unit {0}))
-    (valued : Sound world block env.visible (IsHeld scalar.Ordinal) (value_of condition env) (value_walk condition))
+    (valued : Sound world block env.visible (IsTested world env.visible condition) (value_of condition env) (condition_walk condition))
     (one : SoundAmong {A = Unit {0}} {B = Unit {0}} controls world block env.visible Any_value (execution env) body) (context : Context)
-    (held : AreControlled controls env.visible context) (start : Store) (known : Known)
+    (held : AreControlled controls env.visible context) (start : Store) (known : Valued)
     (tested : State) where
   abbrev visible : Environment
   visible = env.visible
@@ -576,28 +587,28 @@ module _ (controls : List ℕ) (world : World) (block : ℕ) (env : Surroundings
 
 pub sound-while : (controls : List ℕ) (world : World) (block : ℕ) (env : Surroundings) (condition : Expr) (execution : meaning.Execution)
     (body : Walking (Unit {0}))
-    → Sound world block env.visible (IsHeld scalar.Ordinal) (value_of condition env) (value_walk condition)
+    → Sound world block env.visible (IsTested world env.visible condition) (value_of condition env) (condition_walk condition)
     → SoundAmong {A = Unit {0}} {B = Unit {0}} controls world block env.visible Any_value (execution env) body
     → SoundRound controls world block env.visible (meaning.while_round (value_of condition) execution env tt) (walk.while_round world.tree condition body)
 sound-while controls world block env condition execution body valued one context state s held unbroken part here =
     let visible = env.visible in
-    let first = value_walk condition context state in
+    let first = condition_walk condition context state in
     let inner = body context (where_so world.tree true condition first.value first.after) in
     let out = where_so world.tree false condition first.value first.after in
     let rest = followed inner (flow.give out context inner.after) in
-    good-then world (IsForetold world visible (IsHeld scalar.Ordinal) context first s.store)
+    good-then world (IsForetold world visible (IsTested world visible condition) context first s.store)
     (EndsHold world visible context inner.after out s.store {A = Unit {0}}) s
     (value_of condition env s) (λ v. meaning.turn_if (is_so v) (execution env))
     (valued context state s (unbroken-left first.broken rest.broken unbroken) (part-left world first rest part) here)
     (λ v t is told.
     while-turned controls world block env condition execution body valued one context held s.store first.value first.after (is_so v) t told.so.kept
     (chosen-here world block env condition first.value v s t context first.after is told.so.tie
-    (here-behind world block visible (IsHeld scalar.Ordinal) context state first s t v here told))
+    (here-behind world block visible (IsTested world visible condition) context state first s t v here told))
     (unbroken-left inner.broken [] (unbroken-right first.broken (inner.broken ++ []) unbroken))
     (part-left world inner (flow.give out context inner.after) (part-right world first rest part)))
 
 -- a round of a repeat: behind the condition
-repeat-ends : (world : World) (env : Environment) (condition : Expr) (known : Known) (context : Context) (start : Store) (tested : State) (b : Bool)
+repeat-ends : (world : World) (env : Environment) (condition : Expr) (known : Valued) (context : Context) (start : Store) (tested : State) (b : Bool)
     (t : effect.State)
     → Keeps env context.rounds start t.store → Stands world env context (where_so world.tree b condition known tested) t.store
     → EndsHold world env context (where_so world.tree false condition known tested) (where_so world.tree true condition known tested) start {A = Unit {0}}
@@ -608,12 +619,12 @@ repeat-ends world env condition known context start tested false t kept stands =
 pub sound-repeat : (controls : List ℕ) (world : World) (block : ℕ) (env : Surroundings) (condition : Expr) (execution : meaning.Execution)
     (body : Walking (Unit {0}))
     → SoundAmong {A = Unit {0}} {B = Unit {0}} controls world block env.visible Any_value (execution env) body
-    → Sound world block env.visible (IsHeld scalar.Ordinal) (value_of condition env) (value_walk condition)
+    → Sound world block env.visible (IsTested world env.visible condition) (value_of condition env) (condition_walk condition)
     → SoundRound controls world block env.visible (meaning.repeat_round execution (value_of condition) env tt) (walk.repeat_round world.tree body condition)
 sound-repeat controls world block env condition execution body one valued context state s held unbroken part here =
     let visible = env.visible in
     let first = body context state in
-    let second = value_walk condition context first.after in
+    let second = condition_walk condition context first.after in
     let again = where_so world.tree false condition second.value second.after in
     let out = where_so world.tree true condition second.value second.after in
     let rest = followed second (flow.give out context again) in
@@ -627,7 +638,8 @@ sound-repeat controls world block env condition execution body one valued contex
     (one context state u held (unbroken-left first.broken rest.broken unbroken) (part-left world first rest part) here_again)
     (λ done w is told.
     let here_then = here-behind {B = Unit {0}} world block visible Any_value context state first u w done here_again told in
-    good-then world (IsForetold world visible (IsHeld scalar.Ordinal) context second w.store) P w (value_of condition env w) (λ v. effect.give (answer v))
+    good-then world (IsForetold world visible (IsTested world visible condition) context second w.store) P w (value_of condition env w)
+    (λ v. effect.give (answer v))
     (valued context first.after w (unbroken-left second.broken [] (unbroken-right first.broken (second.broken ++ []) unbroken))
     (part-left world second (flow.give out context again) (part-right world first rest part)) here_then)
     (λ v t gives then.
@@ -635,4 +647,4 @@ sound-repeat controls world block env condition execution body one valued contex
     (repeat-ends world visible condition second.value context s.store second.after (is_so v) t
     (keeps-then visible context.rounds s.store w.store t.store (subst (λ (x : Store). Keeps visible context.rounds x w.store) same told.so.kept) then.so.kept)
     (chosen-here world block env condition second.value v w t context second.after gives then.so.tie
-    (here-behind world block visible (IsHeld scalar.Ordinal) context first.after second w t v here_then then)).stands))))
+    (here-behind world block visible (IsTested world visible condition) context first.after second w t v here_then then)).stands))))

@@ -1,5 +1,5 @@
 -- What is read is sound: each variable is accessed, then it is read and tested by its type, and then it is stored.
-use Rattle.std.proofs.Common.{arith, ◌≡◌, ◌∙◌, refl, sym, subst, ℕ, ℤ, true, false, nat_lt, ◌&&◌, length, List, [], ◌∷◌, map, Option, None}
+use Rattle.std.proofs.Common.{arith, ◌≡◌, ◌∙◌, refl, sym, subst, ℕ, ℤ, true, nat_lt, ◌&&◌, length, List, [], ◌∷◌, map, Option, None}
 use Rattle.std.proofs.lemmas.Bool.{and_parts}
 use Rattle.place.specs.declared.Place.{Place}
 use Rattle.typed_tree.specs.Accesses.{Origin, origin_of, root_of}
@@ -12,7 +12,6 @@ use Rattle.typed_tree.specs.declared.tree.Scalar.TheVariants as scalar
 use Rattle.typed_tree.specs.declared.tree.Selector.{Selector}
 use Rattle.typed_tree.specs.declared.tree.Tree.{Tree}
 use Rattle.domain.specs.Interval.{Interval}
-use Rattle.domain.specs.declared.versions.Version.{Version}
 use Rattle.meaning.specs.declared.value.Value.TheVariants.{Number}
 use Rattle.meaning.specs.Store.{Environment, Place as StorePlace, Store}
 use Rattle.meaning.specs.Effect as effect
@@ -36,6 +35,7 @@ use Rattle.cert_checker.specs.Walk as walk
 use Rattle.cert_checker.specs.Walk.{point_place, reach_stored, read_value, read_walk}
 use Rattle.cert_checker.proofs.SoundAssignments.{has_type, passed-typed, reached-then, value-stored}
 use Rattle.cert_checker.proofs.Written.{Foretold}
+use Rattle.checker_expressions.proofs.BehindCalls.{left-itself}
 
 -- the run does something more, of which the walk has nothing
 pub behind-walk : (world : World) (block : ℕ) (env : Environment) (action more : effect.Action (Unit {0})) (walking : Walking (Unit {0}))
@@ -76,8 +76,8 @@ module _ (world : World) (block : ℕ) (env : Surroundings) (records : List Open
     abbrev range : Interval
     range = limits_of one.range
 
-    abbrev held : Version → Reach → Reach
-    held version = reach_stored version selectors false
+    abbrev held : Context → Reach → Reach
+    held context = reach_stored context selectors []
 
     -- what is read is tested as a value is that is assigned
     abbrev test : RangeTest
@@ -94,13 +94,14 @@ module _ (world : World) (block : ℕ) (env : Surroundings) (records : List Open
       -- a number of the type is stored
       store-sound : (n : ℤ) → is_in one.range (Number n) ≡ true → (store : Store) → LeadsTo world block env origin selectors reach place store
           → SoundFrom {A = Unit {0}} {B = Unit {0}} world block visible store Any_value (effect.store place (Number n)) (read_value name one reach)
-      store-sound n inside store leads at =
+      store-sound n inside store leads at state s same unbroken part here =
           let own = passed-typed world origin selectors test (Number n) typed inside tt in
           sound-by_tree {A = Unit {0}} {B = Unit {0}} world block visible store Any_value (effect.store place (Number n))
-          (λ (tree : Tree). walk.assign_to (point_place tree one.point name) origin selectors (held at.version reach) None None range)
+          (λ (tree : Tree). walk.assign_to (point_place tree one.point name) origin selectors (held at reach) None None range)
           (value-stored world block env records opened laws calls (point_place world.tree one.point name) origin selectors own.0 own.1 (Number n) own.2 seen
-          (held at.version reach) place range (is_in-limits one.range (Number n) inside) store
-          (reached-then at.version world block env store store origin selectors reach place false (λ quiet. refl) leads) None None tt tt) at
+          (held at reach) place range (is_in-limits one.range (Number n) inside) store
+          (reached-then at world block env store store origin selectors reach place [] here.stands.goes (λ quiet. refl)
+          (left-itself world [] visible store) leads) None None tt tt) at state s same unbroken part here
 
       read-stored : (store : Store) → LeadsTo world block env origin selectors reach place store
           → SoundFrom {A = Unit {0}} {B = Unit {0}} world block visible store Any_value (from_place place) (read_value name one reach)

@@ -55,7 +55,7 @@ use Rattle.checker_expressions.proofs.SoundCalls.{CallLaws, then-gives}
 use Rattle.checker_expressions.proofs.SoundNotes.{AreNoted, IsNotedValue, IsOperated, noting-sound, one-noted}
 use Rattle.checker_expressions.proofs.SoundExpressions.{value-sound}
 use Rattle.checker_expressions.proofs.Traced.{traced_of}
-use Rattle.cert_checker.specs.Steps.{added, assigned_walk, unnoted_walk, chain_step, difference_step, entire_variable, is_beside_quiet, layer_step}
+use Rattle.cert_checker.specs.Steps.{added, chain_step, noted_where, unnoted_walk, difference_step, entire_variable, is_beside_quiet, layer_step}
 use Rattle.cert_checker.specs.Steps.{operated_step, value_step, sum_step, taken_off}
 
 -- ---- sums and differences
@@ -309,7 +309,7 @@ module _ (world : World) (block : ℕ) (env : Surroundings) (records : List Open
         → IsStep (moment env.visible store) root (value_step world.tree root e told.noted) v
 
   pub assigned-sound : (e : Expr) (one : Scalar) → is_well_formed_expr (outline_of world.tree) block e ≡ true → is_held one (held_by e) ≡ true
-      → begins e records ≡ true → Sound world block env.visible (IsAssigned one e) (value_of e env) (assigned_walk e)
+      → begins e records ≡ true → Sound world block env.visible (IsAssigned one e) (value_of e env) (noted_where Growths e)
   assigned-sound e one well held begin context state s = by (has context.version Growths)
     where
       by : (b : Bool) → (cond b (noting_walk [] e context) (unnoted_walk e context) state).broken ≡ []

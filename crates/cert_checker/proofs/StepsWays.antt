@@ -1,5 +1,5 @@
 -- What the checker did over two ways from a point, and over a loop.
-use Rattle.std.proofs.Common.{None, ◌≡◌, ◌∙◌, refl, sym, ap, ap₂, subst, Option, Some, ℕ, List, [], ◌∷◌, ◌++◌, length}
+use Rattle.std.proofs.Common.{None, ◌≡◌, ◌∙◌, refl, sym, ap, ap₂, subst, Option, ℕ, List, [], ◌∷◌, ◌++◌, length}
 use Rattle.std.proofs.Common.{append_assoc, append-nil}
 use Rattle.place.specs.declared.Place.{Place}
 use Rattle.typed_tree.specs.declared.tree.Tree.{Tree}

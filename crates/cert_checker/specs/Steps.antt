@@ -13,7 +13,7 @@ use Rattle.typed_tree.specs.declared.tree.Tree.{Tree}
 use Rattle.typed_tree.specs.Calls.{holds_call}
 use Rattle.domain.specs.Interval.{Interval, negated}
 use Rattle.domain.specs.Versions.{has}
-use Rattle.domain.specs.declared.versions.Extension.TheVariants.{Growths}
+use Rattle.domain.specs.declared.versions.Extension.{Extension}
 use Rattle.checker_state.specs.Bounds.{is_variable}
 use Rattle.checker_state.specs.Conditions.{condition_of}
 use Rattle.checker_state.specs.Forms.{root_of}
@@ -79,7 +79,7 @@ value_step tree root expression notes = layer_step tree root (out-Expr expressio
 abbrev pub unnoted_walk : Expr → Walking Valued
 unnoted_walk expression = with_noted [] (λ context state. []) (value_walk expression)
 
--- a value that is assigned: it is noted where certificates tell how variables grow
-abbrev pub assigned_walk : Expr → Walking Valued
-assigned_walk expression context =
-    if has context.version Growths then noting_walk [] expression context else unnoted_walk expression context
+-- a value that is noted where certificates have an extension
+abbrev pub noted_where : Extension → Expr → Walking Valued
+noted_where extension expression context =
+    if has context.version extension then noting_walk [] expression context else unnoted_walk expression context

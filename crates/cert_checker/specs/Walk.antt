@@ -30,11 +30,9 @@ use Rattle.typed_tree.specs.declared.tree.Stmt.TheOpen.Stmt-F.{Empty, Assign, Wr
 use Rattle.typed_tree.specs.declared.tree.Stmt.TheOpen.Stmt-F.{Case, Copy, Call, With, Read}
 use Rattle.typed_tree.specs.declared.tree.Stmt.TheFolds.{fold-Stmt}
 use Rattle.typed_tree.specs.Accesses.{Origin, origin_of, root_of, steps_of}
-use Rattle.typed_tree.specs.Calls.{holds_call, whole_holds_call}
 use Rattle.domain.specs.Interval.{Interval, common}
 use Rattle.domain.specs.Versions.{has}
-use Rattle.domain.specs.declared.versions.Extension.TheVariants.{Boxes}
-use Rattle.domain.specs.declared.versions.Version.{Version}
+use Rattle.domain.specs.declared.versions.Extension.TheVariants.{Boxes, Growths, Sides}
 use Rattle.domain.specs.Numbers.{hull, is_covered}
 use Rattle.domain.specs.Facts.{Fact}
 use Rattle.checker_state.specs.Bounds.{Bound}
@@ -60,16 +58,16 @@ use Rattle.checker_loops.specs.Pairs.{aliases_in}
 use Rattle.checker_loops.specs.Sections.{BlockClaims, all_block_claims, all_pairs, block_claims_at}
 use Rattle.checker_loops.specs.Starts.{block_start}
 use Rattle.checker_loops.specs.Aliases.{Stored, reach_unless_alias, unless_alias, with_aliases_stored}
-use Rattle.checker_calls.specs.Actuals.{unknown_reach}
 use Rattle.checker_expressions.specs.declared.fault.Rule.{Rule}
 use Rattle.checker_expressions.specs.declared.noting.Noted.{Noted}
 use Rattle.checker_expressions.specs.declared.fault.Rule.TheVariants.{LoopEntry, LoopTurn, Exit, Changes}
-use Rattle.checker_expressions.specs.Walk.{Context, Walked, Walking, ◌>>=◌, access_walk, asked, call_walk}
+use Rattle.checker_expressions.specs.Walk.{Context, Piece, Walked, Walking, ◌>>=◌, access_walk, asked, call_walk}
 use Rattle.checker_expressions.specs.Walk.{changed_by, enter, fitting, followed, give, index_pieces}
-use Rattle.checker_expressions.specs.Walk.{left_open}
+use Rattle.checker_expressions.specs.Walk.{left_open, piece_of, reach_before}
 use Rattle.checker_expressions.specs.Walk.{may_change, parameter_walk, passed_piece_of, tested, value_walk, whole_walk}
-use Rattle.checker_expressions.specs.Walk.{with_state, within}
-use Rattle.cert_checker.specs.Steps.{assigned_walk, entire_variable, value_step}
+use Rattle.checker_expressions.specs.Walk.{Valued, with_state, within}
+use Rattle.checker_sides.specs.Sides.{sided}
+use Rattle.cert_checker.specs.Steps.{entire_variable, noted_where, value_step}
 
 -- a variable is changed at a place: each loop round the place lists it, and so does the block, if need be
 abbrev pub change : Place → ℕ → Walking (Unit {0})
@@ -170,10 +168,6 @@ all_of (statement ∷ statements) = do
   _ ← statement
   all_of statements
 
--- what was reached before a call, perhaps
-abbrev pub reach_before : Bool → Reach → Reach
-reach_before holds_call reach = if holds_call then unknown_reach reach else reach
-
 -- a selector is an index; the last one is
 abbrev pub is_index : Option Selector → Bool
 is_index (Some (Element fits cells)) = true
@@ -192,10 +186,11 @@ abbrev pub reach_of_store : List Selector → Reach → Reach
 reach_of_store selectors reach = if is_some_index reach.indexes && not (ends_at_index selectors)
     then record reach { is_all = false } else reach
 
--- the same, where the value may hold a call; in a version with boxes a component of each element counts by itself
-abbrev pub reach_stored : Version → List Selector → Bool → Reach → Reach
-reach_stored version selectors holds_call reach = if has version Boxes then reach_before holds_call reach
-    else reach_of_store selectors (reach_before holds_call reach)
+-- the same, where expressions were evaluated behind the access; in a version with boxes a component of each element
+-- counts by itself
+abbrev pub reach_stored : Context → List Selector → List Piece → Reach → Reach
+reach_stored context selectors later reach = if has context.version Boxes then reach_before context later reach
+    else reach_of_store selectors (reach_before context later reach)
 
 -- a piece from its entry on
 abbrev pub from_entry : ℕ → Walking (Unit {0}) → Walking (Unit {0})
@@ -215,21 +210,21 @@ abbrev pub assignment_walk : Assignment → Walking (Unit {0})
 assignment_walk assignment =
     let target = assignment.target in do
       reach ← access_walk target (index_pieces assignment.indexes.items)
-      valued ← assigned_walk assignment.value
+      valued ← noted_where Growths assignment.value
       passed ← fitting assignment.fits valued.known
       λ context. assign_value assignment
-          (reach_stored context.version target.selectors.items (holds_call assignment.value) reach) valued.noted passed
+          (reach_stored context target.selectors.items (piece_of assignment.value ∷ []) reach) valued.noted passed
           context
 
 -- an assignment of a whole value: the target is accessed, and then come the components, one after another
 abbrev pub copying_walk : Copying → Walking (Unit {0})
 copying_walk copying =
     let target = copying.target in
-    let hold = whole_holds_call copying.value copying.value_indexes.items in do
+    let later = index_pieces copying.value_indexes.items in do
       reach ← access_walk target (index_pieces copying.indexes.items)
-      ranges ← whole_walk copying.value (index_pieces copying.value_indexes.items)
+      ranges ← whole_walk copying.value later
       λ context. copy_to copying.becomes (origin_of target) target.selectors.items
-          (reach_stored context.version target.selectors.items hold reach) ranges context
+          (reach_stored context target.selectors.items later reach) ranges context
 
 -- the place of a point of a program, or else another
 abbrev pub place_or : Place → Option Point → Place
@@ -243,7 +238,7 @@ point_place tree number other = place_or other (slice_get tree.points.items numb
 abbrev pub read_value : Place → ReadVariable → Reach → Walking (Unit {0})
 read_value name one reach context =
     assign_to (point_place context.tree one.point name) (origin_of one.access) one.access.selectors.items
-    (reach_stored context.version one.access.selectors.items false reach) None None (limits_of one.range) context
+    (reach_stored context one.access.selectors.items [] reach) None None (limits_of one.range) context
 
 -- a variable that is read by a procedure whose name stands at a place: it is accessed, and then it gets its value
 abbrev pub read_walk : Place → ReadVariable → Walking (Unit {0})
@@ -256,10 +251,15 @@ abbrev pub either_of : Context → Walked (Unit {0}) → Walked (Unit {0}) → W
 either_of context one other =
     record (followed one other) { after = joined_states (table_of context.tree) one.after other.after }
 
+-- a condition: its operands are noted where they tell something of one another
+abbrev pub condition_walk : Expr → Walking Valued
+condition_walk = noted_where Sides
+
 -- the state of a program where a condition has a truth value
-abbrev pub where_so : Tree → Bool → Expr → Known → State → State
-where_so tree truth condition known state =
-    branched (is_ordinal_variable tree) truth condition (known_range known) state
+abbrev pub where_so : Tree → Bool → Expr → Valued → State → State
+where_so tree truth condition valued state =
+    sided tree truth condition valued.noted
+    (branched (is_ordinal_variable tree) truth condition (known_range valued.known) state)
 
 -- two ways from a state, each of them taken from what is known there
 abbrev pub parted : (one_state other_state : State → State) → (one other : Walking (Unit {0})) → Walking (Unit {0})
@@ -267,15 +267,15 @@ parted one_state other_state one other context state =
     either_of context (one context (one_state state)) (other context (other_state state))
 
 -- what is executed where a condition is true, and what is where it is false
-abbrev pub branches : Tree → Expr → (consequence alternative : Walking (Unit {0})) → Known → Walking (Unit {0})
-branches tree condition consequence alternative known =
-    parted (where_so tree true condition known) (where_so tree false condition known) consequence alternative
+abbrev pub branches : Tree → Expr → (consequence alternative : Walking (Unit {0})) → Valued → Walking (Unit {0})
+branches tree condition consequence alternative valued =
+    parted (where_so tree true condition valued) (where_so tree false condition valued) consequence alternative
 
 -- a conditional statement: the condition, and then one of its branches
 abbrev pub choice_walk : Expr → (consequence alternative : Walking (Unit {0})) → Walking (Unit {0})
 choice_walk condition consequence alternative = do
-  known ← value_walk condition
-  λ context. branches context.tree condition consequence alternative known context
+  valued ← condition_walk condition
+  λ context. branches context.tree condition consequence alternative valued context
 
 -- the statement behind `else`, or nothing where there is none
 abbrev pub alternative_walk : Option (Box (Walking (Unit {0})) Global) → Walking (Unit {0})
@@ -291,20 +291,20 @@ here context state = give state context state
 -- a round of a while: the condition, and then perhaps the body
 abbrev pub while_round : Tree → Expr → Walking (Unit {0}) → Walking State
 while_round tree condition body = do
-  known ← value_walk condition
+  valued ← condition_walk condition
   tested ← here
-  _ ← with_state (where_so tree true condition known tested)
+  _ ← with_state (where_so tree true condition valued tested)
   _ ← body
-  give (where_so tree false condition known tested)
+  give (where_so tree false condition valued tested)
 
 -- a round of a repeat: the body, and then the condition, which ends it
 abbrev pub repeat_round : Tree → Walking (Unit {0}) → Expr → Walking State
 repeat_round tree body condition = do
   _ ← body
-  known ← value_walk condition
+  valued ← condition_walk condition
   tested ← here
-  _ ← with_state (where_so tree false condition known tested)
-  give (where_so tree true condition known tested)
+  _ ← with_state (where_so tree false condition valued tested)
+  give (where_so tree true condition valued tested)
 
 -- the facts of a loop are given at a point
 abbrev pub facts_given : Rule → Place → List Fact → Walking (Unit {0})

@@ -3,7 +3,7 @@ ghost use Rattle.typed_tree.specs.Accesses.{origin_of};
 ghost use Rattle.typed_tree.specs.Entries.{access_entries, entries_of_expression, index_entries, whole_entries};
 ghost use Rattle.checker_state.specs.View.{said_form, said_reach};
 ghost use Rattle.checker_expressions.specs.Visits.{all_counted};
-ghost use Rattle.cert_checker.specs.Steps.{assigned_walk};
+ghost use Rattle.cert_checker.specs.Steps.{noted_where};
 ghost use Rattle.cert_checker.specs.StepsView.{said_valued};
 ghost use Rattle.cert_checker.specs.StoresView.{said_stores};
 ghost use Rattle.cert_checker.specs.View.{WalkGoes, context_of};
@@ -13,7 +13,6 @@ ghost use Rattle.cert_checker.specs.Walk.{change, copy_to, copying_walk, from_en
 ghost use Rattle.cert_checker.specs.Walk.{stores_made};
 
 use crate::increments::{Valued, value_step};
-use crate::reached::reach_stored;
 use crate::stores::{Stores, assign};
 use crate::walk::Walk;
 use checker_expressions::noting::Noted;
@@ -22,7 +21,8 @@ use checker_state::{Bound, Known, Reach, bound_form};
 use domain::{Extension, Interval};
 use place::Place;
 use std::alloc::AllocError;
-use typed_tree::{Access, Assignment, Base, Copying, Expr, holds_call, whole_holds_call};
+use std::slice;
+use typed_tree::{Access, Assignment, Base, Copying, Expr};
 
 // What statements store to variables and to components.
 impl<'a> Walk<'a> {
@@ -37,21 +37,25 @@ impl<'a> Walk<'a> {
         visits.tick(assignment.number);
         let target = &assignment.target;
         let reach = self.access(target, &assignment.indexes, visits);
-        let valued = self.assigned_value(&assignment.value, visits);
+        let valued = self.noted_where(Extension::Growths, &assignment.value, visits);
         let passed = self.flow.fitting(assignment.fits, valued.known);
-        let version = self.flow.grounds.version;
-        let holds_call = holds_call(&assignment.value);
-        let reach = reach_stored(version, &target.selectors, holds_call, reach);
+        let later = slice::from_ref(&assignment.value);
+        let reach = self.reach_stored(&target.selectors, later, reach);
         self.assign_value(assignment, reach, &valued.notes, passed);
     }
 
-    /// A value that is assigned: its operands are noted where certificates tell how variables grow.
-    fn assigned_value<C: Count>(&mut self, value: &Expr, visits: &mut C) -> Valued
-        ensures goes { WalkGoes (assigned_walk value.now) self.old self.new (said_valued result) }
+    /// A value: its operands are noted where certificates have an extension.
+    pub(crate) fn noted_where<C: Count>(
+        &mut self,
+        extension: Extension,
+        value: &Expr,
+        visits: &mut C,
+    ) -> Valued
+        ensures goes { WalkGoes (noted_where extension value.now) self.old self.new (said_valued result) }
         ensures counts { visits.new ≡ all_counted C.counted (entries_of_expression value.now) visits.old }
     {
         let mut notes = Vec::new(self.flow.state.alloc());
-        if self.flow.grounds.version.has(Extension::Growths) {
+        if self.flow.grounds.version.has(extension) {
             let known = self.flow.noting(value, &mut notes, visits);
             Valued { known, notes }
         } else {
@@ -70,9 +74,8 @@ impl<'a> Walk<'a> {
         visits.tick(copying.number);
         let reach = self.access(&copying.target, &copying.indexes, visits);
         let ranges = self.whole_value(&copying.value, &copying.value_indexes, visits);
-        let holds_call = whole_holds_call(&copying.value, &copying.value_indexes);
-        let version = self.flow.grounds.version;
-        let reach = reach_stored(version, &copying.target.selectors, holds_call, reach);
+        let later = copying.value_indexes.as_slice();
+        let reach = self.reach_stored(&copying.target.selectors, later, reach);
         self.copy_to(copying, reach, &ranges);
     }
 

@@ -9,9 +9,9 @@ use checker_state::{Known, entire};
 use domain::Interval;
 use typed_tree::{Dyadic, Expr, Link, holds_call};
 
-/// What is known of a value that is assigned.
+/// What is known of a value.
 #[derive(Drop)]
-pub(crate) struct Valued {
+pub struct Valued {
     pub known: Known,
     /// What was noted of its operands, if anything was.
     pub notes: Vec<Noted>,

@@ -25,6 +25,7 @@ pub mod walk;
 use certificate::Certificate;
 use checker_expressions::CheckFault;
 use checker_rows::Rows;
+pub use increments::Valued;
 use names::is_known;
 use open_sites::open_sites;
 use program::program;

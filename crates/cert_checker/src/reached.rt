@@ -1,27 +1,27 @@
 //! What is reached of a variable where a value is stored to what was accessed (ISO 7185:1990, 6.8.2.2).
 ghost use Rattle.std.specs.Prelude.{◌≡◌};
 ghost use Rattle.checker_state.specs.View.{said_indexes, said_reach};
-ghost use Rattle.cert_checker.specs.Walk.{ends_at_index, is_some_index, reach_before, reach_of_store, reach_stored};
+ghost use Rattle.checker_expressions.specs.Walk.{index_pieces};
+ghost use Rattle.cert_checker.specs.View.{context_of};
+ghost use Rattle.cert_checker.specs.Walk.{ends_at_index, is_some_index, reach_of_store, reach_stored};
 
-use checker_calls::unknown_reach;
+use crate::walk::Walk;
 use checker_state::{Indexes, Reach};
-use domain::{Extension, Version};
-use typed_tree::Selector;
+use domain::Extension;
+use typed_tree::{Expr, Selector};
 
-/// What is reached where these selectors are stored to, by a value that may hold a call.
-pub(crate) fn reach_stored(
-    version: Version,
-    selectors: &[Selector],
-    holds_call: bool,
-    reach: Reach,
-) -> Reach
-    ensures { said_reach result ≡ reach_stored version selectors.now holds_call (said_reach reach) }
-{
-    let reach = reach_before(holds_call, reach);
-    if version.has(Extension::Boxes) {
-        reach
-    } else {
-        reach_of_store(selectors, reach)
+impl<'a> Walk<'a> {
+    /// What is reached where these selectors are stored to, and expressions were evaluated behind them.
+    pub(crate) fn reach_stored(&self, selectors: &[Selector], later: &[Expr], reach: Reach) -> Reach
+        ensures { said_reach result
+            ≡ reach_stored (context_of self.now) selectors.now (index_pieces later.now) (said_reach reach) }
+    {
+        let reach = self.flow.reach_before(later, reach);
+        if self.flow.grounds.version.has(Extension::Boxes) {
+            reach
+        } else {
+            reach_of_store(selectors, reach)
+        }
     }
 }
 
@@ -55,16 +55,5 @@ fn ends_at_index(selectors: &[Selector]) -> bool
     match selectors.last() {
         Some(Selector::Element { .. }) => true,
         _ => false,
-    }
-}
-
-/// What was reached before a value was evaluated: an index counts no more, where that holds a call.
-fn reach_before(holds_call: bool, reach: Reach) -> Reach
-    ensures { said_reach result ≡ reach_before holds_call (said_reach reach) }
-{
-    if holds_call {
-        unknown_reach(reach)
-    } else {
-        reach
     }
 }

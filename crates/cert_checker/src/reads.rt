@@ -5,7 +5,6 @@ ghost use Rattle.checker_expressions.specs.Visits.{all_counted};
 ghost use Rattle.cert_checker.specs.View.{WalkGoes};
 ghost use Rattle.cert_checker.specs.Walk.{all_of, from_entry, point_place, read_value, read_walk};
 
-use crate::reached::reach_stored;
 use crate::walk::Walk;
 use checker_expressions::Count;
 use checker_rows::limits;
@@ -42,8 +41,7 @@ impl<'a> Walk<'a> {
         ensures { WalkGoes (read_value name one.now (said_reach reach)) self.old self.new tt }
     {
         let place = point_place(self.flow.state.table().tree(), one.point, name);
-        let version = self.flow.grounds.version;
-        let reach = reach_stored(version, &one.access.selectors, false, reach);
+        let reach = self.reach_stored(&one.access.selectors, &[], reach);
         self.assign_to(place, &one.access, reach, limits(one.range), None, None);
     }
 }

@@ -10,17 +10,21 @@ ghost use Rattle.checker_ways.specs.View.{said_way};
 ghost use Rattle.checker_expressions.specs.Visits.{all_counted};
 ghost use Rattle.checker_expressions.specs.Walk.{access_walk, call_walk, changed_by, index_pieces, parameter_walk};
 ghost use Rattle.checker_expressions.specs.Walk.{passed_piece_of, tested, value_walk, whole_walk};
+ghost use Rattle.cert_checker.specs.StepsView.{said_valued};
 ghost use Rattle.cert_checker.specs.View.{WalkGoes, arms_from_here, else_entries, else_walk, statements_entries};
-ghost use Rattle.cert_checker.specs.Walk.{all_of, bounds_walk, choice_walk, for_turns, for_walk, from_entry};
+ghost use Rattle.cert_checker.specs.Walk.{all_of, bounds_walk, choice_walk, condition_walk, for_turns, for_walk};
+ghost use Rattle.cert_checker.specs.Walk.{from_entry};
 ghost use Rattle.cert_checker.specs.Walk.{index_walk, record_walk, with_walk};
 ghost use Rattle.cert_checker.specs.Walk.{repeat_walk, rounds_of, statement_walk, where_so, while_walk};
 
+use crate::increments::Valued;
 use checker_expressions::{Count, Flow};
 use checker_loops::loops::Claims;
+use checker_sides::sides::meet_sides;
 use checker_state::{Known, Reach, entire};
 use checker_ways::cases::{begin_arm, constants_before, covers};
 use checker_ways::ways::Way;
-use domain::{Domain, Interval};
+use domain::{Domain, Extension, Interval};
 use std::alloc::{AllocError, Global};
 use typed_tree::{
     Access, CaseHead, Expr, ForHead, LoopHead, ProcedureCall, Stmt, Whole, WithHead, WithRecord,
@@ -63,12 +67,12 @@ impl<'a> Walk<'a> {
                 alternative,
             } => {
                 visits.tick(*number);
-                let known = self.expression(condition, visits);
+                let valued = self.condition(condition, visits);
                 let mark = self.flow.state.mark();
-                self.go_where(condition, &known, true);
+                self.go_where(condition, &valued, true);
                 self.statement(consequence, visits);
                 let first = self.flow.state.leave(mark);
-                self.go_where(condition, &known, false);
+                self.go_where(condition, &valued, false);
                 self.alternative(alternative, visits);
                 self.flow.state.join_behind(mark, &first);
             }
@@ -113,13 +117,13 @@ impl<'a> Walk<'a> {
     {
         visits.tick(head.number);
         self.enter_loop(head.loop_number, head.place, None);
-        let known = self.expression(&head.condition, visits);
+        let valued = self.condition(&head.condition, visits);
         let mark = self.flow.state.mark();
-        self.go_where(&head.condition, &known, true);
+        self.go_where(&head.condition, &valued, true);
         self.statement(body, visits);
         self.leave_loop(head.loop_number, head.place);
         let _turn = self.flow.state.leave(mark);
-        self.go_where(&head.condition, &known, false);
+        self.go_where(&head.condition, &valued, false);
     }
 
     /// A repeat.
@@ -133,12 +137,12 @@ impl<'a> Walk<'a> {
         visits.tick(head.number);
         self.enter_loop(head.loop_number, head.place, None);
         self.statements(statements, visits);
-        let known = self.expression(&head.condition, visits);
+        let valued = self.condition(&head.condition, visits);
         let mark = self.flow.state.mark();
-        self.go_where(&head.condition, &known, false);
+        self.go_where(&head.condition, &valued, false);
         self.leave_loop(head.loop_number, head.place);
         let _turn = self.flow.state.leave(mark);
-        self.go_where(&head.condition, &known, true);
+        self.go_where(&head.condition, &valued, true);
     }
 
     /// A for.
@@ -312,6 +316,14 @@ impl<'a> Walk<'a> {
         self.flow.expression(expression, visits)
     }
 
+    /// A condition, whose operands may tell something of one another.
+    pub fn condition<C: Count>(&mut self, condition: &Expr, visits: &mut C) -> Valued
+        ensures goes { WalkGoes (condition_walk condition.now) self.old self.new (said_valued result) }
+        ensures counts { visits.new ≡ all_counted C.counted (entries_of_expression condition.now) visits.old }
+    {
+        self.noted_where(Extension::Sides, condition, visits)
+    }
+
     /// A variable access.
     pub(crate) fn access<C: Count>(
         &mut self,
@@ -342,11 +354,13 @@ impl<'a> Walk<'a> {
     }
 
     /// WalkGoes on where a condition has a truth value.
-    pub fn go_where(&mut self, condition: &Expr, known: &Known, truth: bool)
-        ensures { WalkGoes (changed_by (where_so self.old.flow.state.table.now truth condition.now known.now))
-            self.old self.new tt }
+    pub fn go_where(&mut self, condition: &Expr, valued: &Valued, truth: bool)
+        ensures { WalkGoes (changed_by (where_so self.old.flow.state.table.now truth condition.now
+            (said_valued valued.now))) self.old self.new tt }
     {
-        self.flow.state.branch(condition, known.range(), truth);
+        let state = &mut self.flow.state;
+        state.branch(condition, valued.known.range(), truth);
+        meet_sides(state, condition, truth, &valued.notes);
     }
 }
 

@@ -5,7 +5,7 @@ ghost use Rattle.certificate.specs.Contents.{claim_order, may_stand, order_in_wo
 ghost use Rattle.certificate.specs.Lines as spec;
 
 use crate::fact_words::{FactWords, fact_of};
-use crate::{AliasPair, LineFault, both, number_of, parted, variable_of};
+use crate::{AliasPair, LineFault, Told, both, number_of, parted, variable_of};
 use domain::Version;
 use std::cmp::Ordering;
 
@@ -89,7 +89,7 @@ impl<'a> ClaimLine<'a> {
 }
 
 /// What a line below the heading of a version says.
-pub(crate) fn reading(version: Version, line: &[u8]) -> Result<Content<'_>, LineFault>
+pub(crate) fn reading(version: Version, line: &[u8]) -> Told<Content<'_>>
     ensures { result_map_both said_content (λ fault. fault) result ≡ spec.reading version line.now }
 {
     if let Some(number) = line.strip_prefix(b"proc ") {
@@ -103,7 +103,7 @@ pub(crate) fn reading(version: Version, line: &[u8]) -> Result<Content<'_>, Line
 }
 
 /// What a line claims, by the word that it begins with.
-fn claim_of(version: Version, line: &[u8]) -> Result<ClaimLine<'_>, LineFault>
+fn claim_of(version: Version, line: &[u8]) -> Told<ClaimLine<'_>>
     ensures { result_map_both word_claim (λ fault. fault) result ≡ spec.claim_of version line.now }
 {
     if let Some(pair) = line.strip_prefix(b"alias ") {
@@ -113,22 +113,19 @@ fn claim_of(version: Version, line: &[u8]) -> Result<ClaimLine<'_>, LineFault>
         return Ok(ClaimLine::Change(variable_of(root)?));
     }
     if let Some(words) = line.strip_prefix(b"entry ") {
-        let fact = fact_of(version, words)?;
-        return Ok(ClaimLine::Entry(fact));
+        return Ok(ClaimLine::Entry(fact_of(version, words)?));
     }
     if let Some(words) = line.strip_prefix(b"exit ") {
-        let fact = fact_of(version, words)?;
-        return Ok(ClaimLine::Exit(fact));
+        return Ok(ClaimLine::Exit(fact_of(version, words)?));
     }
     if let Some(words) = line.strip_prefix(b"fact ") {
-        let fact = fact_of(version, words)?;
-        return Ok(ClaimLine::Fact(fact));
+        return Ok(ClaimLine::Fact(fact_of(version, words)?));
     }
     Err(LineFault::NotInGrammar)
 }
 
 /// The pair that two variables tell.
-fn pair_of(words: &[u8]) -> Result<AliasPair, LineFault>
+fn pair_of(words: &[u8]) -> Told<AliasPair>
     ensures { result ≡ spec.pair_of words.now }
 {
     let (first, second) = parted(words)?;

@@ -7,7 +7,7 @@ ghost use Rattle.certificate.specs.Lines as spec;
 
 use crate::bounds::spans_of;
 use crate::paths::{PathWord, path_of};
-use crate::{Fact, LineFault, both, constant_of, parted, variable_of};
+use crate::{Fact, LineFault, Told, both, constant_of, parted, variable_of};
 use domain::{Extension, Growth, Interval, Spans, Version};
 use std::alloc::{AllocError, Global};
 use std::cmp::Ordering;
@@ -104,7 +104,7 @@ impl<'a> FactWords<'a> {
 }
 
 /// The fact that the words behind `fact` tell in a certificate of a version.
-pub(crate) fn fact_of(version: Version, words: &[u8]) -> Result<FactWords<'_>, LineFault>
+pub(crate) fn fact_of(version: Version, words: &[u8]) -> Told<FactWords<'_>>
     ensures { result_map_both word_fact (λ fault. fault) result ≡ spec.fact_of version words.now }
 {
     if let Some(words) = words.strip_prefix(b"defined ") {
@@ -123,7 +123,7 @@ pub(crate) fn fact_of(version: Version, words: &[u8]) -> Result<FactWords<'_>, L
 }
 
 /// The fact that a path and two numbers tell.
-fn range_fact(words: &[u8]) -> Result<FactWords<'_>, LineFault>
+fn range_fact(words: &[u8]) -> Told<FactWords<'_>>
     ensures { result_map_both word_fact (λ fault. fault) result ≡ spec.range_fact words.now }
 {
     let (path, words) = parted(words)?;
@@ -134,7 +134,7 @@ fn range_fact(words: &[u8]) -> Result<FactWords<'_>, LineFault>
 }
 
 /// A range fact: a range without a number is written 1 0.
-fn range_of(path: PathWord<'_>, first: i32, last: i32) -> Result<FactWords<'_>, LineFault>
+fn range_of(path: PathWord<'_>, first: i32, last: i32) -> Told<FactWords<'_>>
     ensures { result_map_both word_fact (λ fault. fault) result ≡ spec.range_of (word_path path.entry, (first, last)) }
 {
     if last < first && (first, last) != (1, 0) {
@@ -144,7 +144,7 @@ fn range_of(path: PathWord<'_>, first: i32, last: i32) -> Result<FactWords<'_>, 
 }
 
 /// The fact that a path tells, alone or with spans.
-fn defined_fact(version: Version, words: &[u8]) -> Result<FactWords<'_>, LineFault>
+fn defined_fact(version: Version, words: &[u8]) -> Told<FactWords<'_>>
     ensures { result_map_both word_fact (λ fault. fault) result ≡ spec.defined_fact version words.now }
 {
     match blank(words) {
@@ -158,18 +158,14 @@ fn defined_fact(version: Version, words: &[u8]) -> Result<FactWords<'_>, LineFau
 }
 
 /// The path that a word tells, with steps to elements in a version with boxes.
-fn defined_path(version: Version, word: &[u8]) -> Result<PathWord<'_>, LineFault>
+fn defined_path(version: Version, word: &[u8]) -> Told<PathWord<'_>>
     ensures { result_map_both word_path (λ fault. fault) result ≡ spec.defined_path version word.now }
 {
     path_of(version.has(Extension::Boxes), word)
 }
 
 /// The fact that a path and spans tell.
-fn spanned_fact<'a>(
-    version: Version,
-    path: &'a [u8],
-    spans: &[u8],
-) -> Result<FactWords<'a>, LineFault>
+fn spanned_fact<'a>(version: Version, path: &'a [u8], spans: &[u8]) -> Told<FactWords<'a>>
     ensures { result_map_both word_fact (λ fault. fault) result ≡ spec.spanned_fact version path.now spans.now }
 {
     let (path, spans) = both(defined_path(version, path), spans_of(version, spans))?;
@@ -177,7 +173,7 @@ fn spanned_fact<'a>(
 }
 
 /// The fact that two variables and a number tell.
-fn order_fact(words: &[u8]) -> Result<FactWords<'_>, LineFault>
+fn order_fact(words: &[u8]) -> Told<FactWords<'_>>
     ensures { result_map_both word_fact (λ fault. fault) result ≡ spec.order_fact words.now }
 {
     let (root, words) = parted(words)?;
@@ -192,7 +188,7 @@ fn order_fact(words: &[u8]) -> Result<FactWords<'_>, LineFault>
 }
 
 /// The fact that a variable and a growth tell, in a version that has growths.
-fn grow_fact(version: Version, words: &[u8]) -> Result<FactWords<'_>, LineFault>
+fn grow_fact(version: Version, words: &[u8]) -> Told<FactWords<'_>>
     ensures { result_map_both word_fact (λ fault. fault) result ≡ spec.grow_fact version words.now }
 {
     if !version.has(Extension::Growths) {
@@ -204,7 +200,7 @@ fn grow_fact(version: Version, words: &[u8]) -> Result<FactWords<'_>, LineFault>
 }
 
 /// The growth that four numbers tell.
-fn growth_of(words: &[u8]) -> Result<Growth, LineFault>
+fn growth_of(words: &[u8]) -> Told<Growth>
     ensures { result ≡ spec.growth_of words.now }
 {
     let (first, words) = parted(words)?;
@@ -215,7 +211,7 @@ fn growth_of(words: &[u8]) -> Result<Growth, LineFault>
 }
 
 /// Two numbers.
-fn numbers_of(words: &[u8]) -> Result<(i32, i32), LineFault>
+fn numbers_of(words: &[u8]) -> Told<(i32, i32)>
     ensures { result ≡ spec.numbers_of words.now }
 {
     let (first, second) = parted(words)?;
@@ -223,7 +219,7 @@ fn numbers_of(words: &[u8]) -> Result<(i32, i32), LineFault>
 }
 
 /// The growth between lower and upper numbers, of which none of the lower is above the upper one.
-fn growth_between(lower: (i32, i32), upper: (i32, i32)) -> Result<Growth, LineFault>
+fn growth_between(lower: (i32, i32), upper: (i32, i32)) -> Told<Growth>
     ensures { result ≡ spec.growth_between (lower, upper) }
 {
     let (first, first_step) = lower;

@@ -3,7 +3,7 @@ ghost use Rattle.memory.specs.Refused.{the_refusal};
 ghost use Rattle.certificate.specs.declared.fault.ReadFault.TheVariants.{Memory};
 
 use memory::Refused;
-use std::alloc::{AllocError, AllocFailed};
+use std::alloc::AllocError;
 use thiserror::Error;
 
 /// Why a text is no certificate. Lines are numbered from 1, in 64 bits since a text has no greatest length. F1 to F5
@@ -65,14 +65,6 @@ impl From<AllocError> for ReadFault {
     ghost from_gives = { λ _ e. e ≡ Memory the_refusal };
 
     fn from(error: AllocError) -> ReadFault {
-        ReadFault::Memory(error.into())
-    }
-}
-
-impl<T: Drop> From<AllocFailed<T>> for ReadFault {
-    ghost from_gives = { λ _ e. e ≡ Memory the_refusal };
-
-    fn from(error: AllocFailed<T>) -> ReadFault {
         ReadFault::Memory(error.into())
     }
 }

@@ -17,7 +17,9 @@ use domain::Version;
 pub use facts::Fact;
 pub use fault::ReadFault;
 pub use reader::read;
-pub(crate) use words::{LineFault, both, constant_of, lowered_of, number_of, parted, variable_of};
+pub(crate) use words::{
+    LineFault, Told, both, constant_of, lowered_of, number_of, parted, variable_of,
+};
 pub use writer::{read_again, write};
 
 /// What a certificate text says.

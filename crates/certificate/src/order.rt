@@ -68,8 +68,5 @@ impl<'a> Above<'a> {
 fn is_behind(last: Option<u32>, number: u32) -> bool
     ensures { result ≡ comes_behind nat_cmp last number }
 {
-    match last {
-        None => true,
-        Some(last) => last.cmp(&number).is_lt(),
-    }
+    last.is_none_or(|last| last < number)
 }

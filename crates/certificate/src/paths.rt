@@ -7,7 +7,7 @@ ghost use Rattle.certificate.specs.Building.{pieces, steps_in, word_path};
 ghost use Rattle.certificate.specs.Paths.{begins_step, is_name, is_name_byte, is_piece, step_in};
 ghost use Rattle.certificate.specs.Paths as spec;
 
-use crate::{LineFault, variable_of};
+use crate::{LineFault, Told, variable_of};
 use domain::{Path, Step};
 use std::alloc::{AllocError, Global};
 use std::cmp::Ordering;
@@ -43,7 +43,7 @@ impl<'a> PathWord<'a> {
 }
 
 /// The path that a word tells, with steps to elements where these may stand.
-pub(crate) fn path_of(elements: bool, word: &[u8]) -> Result<PathWord<'_>, LineFault>
+pub(crate) fn path_of(elements: bool, word: &[u8]) -> Told<PathWord<'_>>
     ensures { result_map_both word_path (λ fault. fault) result ≡ spec.path_of elements word.now }
 {
     let end = step_place(word);
@@ -61,10 +61,7 @@ fn step_place(text: &[u8]) -> usize
     ensures place { result ≡ position_or_len begins_step text.now }
     ensures within { result ≤ length text.now }
 {
-    match step_position(text) {
-        None => text.len(),
-        Some(place) => place,
-    }
+    step_position(text).unwrap_or(text.len())
 }
 
 fn step_position(text: &[u8]) -> Option<usize>

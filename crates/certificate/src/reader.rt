@@ -142,11 +142,9 @@ fn has_below(content: &Content<'_>, text: &[u8]) -> bool
 fn is_heading(word: &[u8], line: Line<'_>) -> bool
     ensures { result ≡ is_heading word.now (record { bytes = line.entry.bytes.now; ended = line.entry.ended }) }
 {
-    if !line.ended {
-        return false;
-    }
-    match line.bytes.strip_prefix(word) {
-        None => false,
-        Some(number) => is_number(number),
-    }
+    line.ended
+        && line
+            .bytes
+            .strip_prefix(word)
+            .is_some_and(|number| is_number(number))
 }

@@ -11,6 +11,9 @@ pub(crate) enum LineFault {
     OutOfRange,
 }
 
+/// What words tell, or why they say nothing.
+pub(crate) type Told<T> = Result<T, LineFault>;
+
 /// The greatest number of a block, a loop or a variable.
 const MOST: u32 = 999_999;
 
@@ -18,10 +21,7 @@ const MOST: u32 = 999_999;
 const MAXINT: u32 = 2_147_483_647;
 
 /// Two parts of a line: it is not in the grammar before a number of it is out of range.
-pub(crate) fn both<A: Copy, B: Copy>(
-    first: Result<A, LineFault>,
-    second: Result<B, LineFault>,
-) -> Result<(A, B), LineFault>
+pub(crate) fn both<A: Copy, B: Copy>(first: Told<A>, second: Told<B>) -> Told<(A, B)>
     ensures { result ≡ spec.both first second }
 {
     match (first, second) {
@@ -36,31 +36,28 @@ pub(crate) fn both<A: Copy, B: Copy>(
 }
 
 /// What stands before the first blank, and what stands behind it.
-pub(crate) fn parted(words: &[u8]) -> Result<(&[u8], &[u8]), LineFault>
+pub(crate) fn parted(words: &[u8]) -> Told<(&[u8], &[u8])>
     ensures { result_map_both (λ parts. (parts.0.now, parts.1.now)) (λ fault. fault) result ≡ spec.parted words.now }
 {
     text_lines::words::parted(words).ok_or(LineFault::NotInGrammar)
 }
 
 /// A variable: `v` and its root number.
-pub(crate) fn variable_of(word: &[u8]) -> Result<u32, LineFault>
+pub(crate) fn variable_of(word: &[u8]) -> Told<u32>
     ensures { result ≡ spec.variable_of word.now }
 {
-    match word.strip_prefix(b"v") {
-        Some(number) => number_of(number),
-        None => Err(LineFault::NotInGrammar),
-    }
+    number_of(word.strip_prefix(b"v").ok_or(LineFault::NotInGrammar)?)
 }
 
 /// The number of a block, a loop or a variable.
-pub(crate) fn number_of(word: &[u8]) -> Result<u32, LineFault>
+pub(crate) fn number_of(word: &[u8]) -> Told<u32>
     ensures { result ≡ spec.number_of word.now }
 {
     at_most(MOST, word)
 }
 
 /// A number with or without a minus, which 0 hasn't.
-pub(crate) fn constant_of(word: &[u8]) -> Result<i32, LineFault>
+pub(crate) fn constant_of(word: &[u8]) -> Told<i32>
     ensures { result ≡ spec.constant_of word.now }
 {
     match word.strip_prefix(b"-") {
@@ -70,14 +67,14 @@ pub(crate) fn constant_of(word: &[u8]) -> Result<i32, LineFault>
 }
 
 /// The number of a magnitude.
-pub(crate) fn positive_of(digits: &[u8]) -> Result<i32, LineFault>
+pub(crate) fn positive_of(digits: &[u8]) -> Told<i32>
     ensures { result ≡ spec.positive_of digits.now }
 {
     Ok(at_most(MAXINT, digits)? as i32)
 }
 
 /// The negative of a magnitude, which isn't 0.
-pub(crate) fn negative_of(digits: &[u8]) -> Result<i32, LineFault>
+pub(crate) fn negative_of(digits: &[u8]) -> Told<i32>
     ensures { result ≡ spec.negative_of digits.now }
 {
     match at_most(MAXINT, digits)? {
@@ -87,7 +84,7 @@ pub(crate) fn negative_of(digits: &[u8]) -> Result<i32, LineFault>
 }
 
 /// The same of a magnitude by which a bound lies below a variable: at least 1.
-pub(crate) fn lowered_of(digits: &[u8]) -> Result<i32, LineFault>
+pub(crate) fn lowered_of(digits: &[u8]) -> Told<i32>
     ensures { result ≡ spec.lowered_of digits.now }
 {
     match at_most(MAXINT, digits)? {
@@ -97,13 +94,10 @@ pub(crate) fn lowered_of(digits: &[u8]) -> Result<i32, LineFault>
 }
 
 /// The value of a number that is at most the limit.
-fn at_most(limit: u32, word: &[u8]) -> Result<u32, LineFault>
+fn at_most(limit: u32, word: &[u8]) -> Told<u32>
     ensures { result ≡ spec.at_most limit word.now }
 {
-    match natural(limit, word) {
-        Some(number) => Ok(number),
-        None => Err(number_fault(word)),
-    }
+    natural(limit, word).ok_or_else(|| number_fault(word))
 }
 
 /// Why a word isn't a number up to a limit.

@@ -120,16 +120,10 @@ fn put_facts(writer: &mut Writer, word: &[u8], facts: &[Fact])
     ensures { Appends (flat_map (fact_line word.now) (map said_fact facts.now)) writer.old writer.new }
 {
     for fact in facts {
-        put_fact_line(writer, word, fact);
+        writer.append(word);
+        put_fact(writer, fact);
+        writer.append(b"\n");
     }
-}
-
-fn put_fact_line(writer: &mut Writer, word: &[u8], fact: &Fact)
-    ensures { Appends (fact_line word.now (said_fact fact.now)) writer.old writer.new }
-{
-    writer.append(word);
-    put_fact(writer, fact);
-    writer.append(b"\n");
 }
 
 fn put_fact(writer: &mut Writer, fact: &Fact)

@@ -25,3 +25,6 @@ pub mod OfCalls
 pub mod Notes
 pub mod Traced
 pub mod SoundNotes
+pub mod OtherLoops
+pub mod BehindCalls
+pub mod TouchedParts

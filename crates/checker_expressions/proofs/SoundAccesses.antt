@@ -429,7 +429,7 @@ type-of wanted None is = absurd (false≢true is)
 type-of wanted (Some id) is = (id, refl, is)
 
 -- a type that holds such values has one component, itself, and its values are such
-held-scalar : (one : Scalar) (found : Option TypeKind) → is_held_by one found ≡ true → is_some (option_and_then scalar_range found) ≡ true
+pub held-scalar : (one : Scalar) (found : Option TypeKind) → is_held_by one found ≡ true → is_some (option_and_then scalar_range found) ≡ true
 held-scalar scalar.Ordinal (Some (kind.Ordinal range)) held = refl
 held-scalar scalar.Set (Some (kind.Set base members)) held = refl
 held-scalar scalar.Ordinal None held = absurd (false≢true held)

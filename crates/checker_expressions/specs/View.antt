@@ -1,5 +1,6 @@
 -- What the checker did over an expression, as the definitions see it. It does not say what a walk is.
 use Rattle.std.specs.Prelude.{◌≡◌, ℕ, Bool, List, [], ◌∷◌, ◌++◌, Option, Some, None, map, slice_get}
+use Rattle.std.specs.List.{list_any}
 use denote.Ref.{Bor}
 use Rattle.checker_expressions.specs.declared.gathering.Gathering.{Gathering as KeptGathering}
 use Rattle.typed_tree.specs.declared.tree.Block.{Block}
@@ -19,8 +20,8 @@ use Rattle.checker_loops.specs.BlockView.{said_section}
 use Rattle.checker_calls.specs.Exit.{result_range}
 use Rattle.checker_expressions.specs.declared.fault.Breach.{Breach}
 use Rattle.checker_expressions.specs.declared.flow.Flow.{Flow}
-use Rattle.checker_expressions.specs.Walk.{Context, Gathering, Walking, called_block, first_breach, left_open}
-use Rattle.checker_expressions.specs.Walk.{result_of}
+use Rattle.checker_expressions.specs.Walk.{Callees, Calling, Context, Gathering, Walking, called_block, callees_of}
+use Rattle.checker_expressions.specs.Walk.{first_breach, left_open, result_of, touches}
 
 -- what a walk goes by where a flow is, with these claims on loops
 abbrev pub context_of : Flow → List Claims → Context
@@ -55,6 +56,13 @@ range_of_result context call (Some result) =
 
 abbrev pub call_range : Context → Call → Interval
 call_range context call = range_of_result context call (result_of (called_block context call))
+
+-- by what a flow tells what calls touch, and whether one of some touches a variable
+abbrev pub callees_at : Flow → Callees
+callees_at flow = callees_of (context_of flow [])
+
+abbrev pub any_touches : Flow → ℕ → List Calling → Bool
+any_touches flow root calls = list_any (touches (callees_at flow) root) calls
 
 -- what is known where the flow is
 abbrev pub state_of : Flow → State

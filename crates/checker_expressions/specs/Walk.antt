@@ -2,7 +2,7 @@
 -- sites that it leaves open, the rules of certificates that its calls break, and the state at each entry into an
 -- expression (ISO 7185:1990, 6.7, 6.8.3.10). It does not say that a run does what the walk says of it.
 use Rattle.std.specs.Prelude.{ℕ, pos, Bool, not, ◌||◌, int_le, List, [], ◌∷◌, ◌++◌}
-use Rattle.std.specs.Prelude.{Option, Some, None, if◌then◌else◌, map, ◌&&◌, true, false, slice_get}
+use Rattle.std.specs.Prelude.{Option, Some, None, if◌then◌else◌, flat_map, map, ◌&&◌, true, false, nat_eq, slice_get}
 use Rattle.std.specs.List.{list_all, list_any}
 use Rattle.place.specs.declared.Place.{Place}
 use Rattle.typed_tree.specs.declared.tree.Tree.{Tree}
@@ -46,7 +46,7 @@ use Rattle.typed_tree.specs.declared.tree.Expr.TheFolds.{fold-Expr, fold-Passed,
 use Rattle.typed_tree.specs.Accesses.{Origin, origin_of, steps_of}
 use Rattle.typed_tree.specs.WellFormed.{of_one, whole_indexes}
 use Rattle.domain.specs.Versions.{has}
-use Rattle.domain.specs.declared.versions.Extension.TheVariants.{Blocks, Boxes}
+use Rattle.domain.specs.declared.versions.Extension.TheVariants.{Blocks, Boxes, Calls}
 use Rattle.domain.specs.declared.versions.Version.{Version}
 use Rattle.domain.specs.Interval.{Interval, is_included, has_number, common, sum, difference, negated, product, squared}
 use Rattle.domain.specs.Interval.{absolute, quotient, remainder, without_zero_end, at_least, both, either}
@@ -54,6 +54,7 @@ use Rattle.domain.specs.Interval.{complement, joined, truth_values, vacant}
 use Rattle.domain.specs.Hull.{hull_of}
 use Rattle.members.specs.declared.sets.Operator.TheVariants as operator
 use Rattle.checker_state.specs.Bounds.{Bound}
+pub use Rattle.checker_state.specs.Conditions.{joins}
 use Rattle.meaning.specs.Meaning.{overflow_of, overflow_of_both}
 use Rattle.checker_expressions.specs.declared.fault.Breach.{Breach}
 use Rattle.checker_expressions.specs.declared.fault.Rule.{Rule}
@@ -74,12 +75,12 @@ use Rattle.checker_state.specs.Stores.{Index, Reach, entire, gives_reached, is_e
 use Rattle.checker_state.specs.Loops.{is_among}
 use Rattle.checker_loops.specs.Loops.{Claims, Round, all_list}
 use Rattle.checker_state.specs.State.{table_of}
-use Rattle.checker_loops.specs.Pairs.{Listed}
+use Rattle.checker_loops.specs.Pairs.{Listed, aliases_of}
 use Rattle.checker_loops.specs.Ways.{single}
 use Rattle.checker_loops.specs.Sections.{BlockClaims, block_claims_at}
 use Rattle.checker_loops.specs.Starts.{is_own}
 use Rattle.checker_calls.specs.Actuals.{Actual, OfValue, OfRows, OfVariable, Binding, bound_to, settled}
-use Rattle.checker_calls.specs.Actuals.{unknown_index}
+use Rattle.checker_calls.specs.Actuals.{unknown_index, unknown_reach}
 use Rattle.checker_calls.specs.Entry.{are_given}
 use Rattle.checker_calls.specs.Overlaps.{are_separate}
 use Rattle.checker_calls.specs.Exit.{behind_call, result_range, roots_changed}
@@ -370,21 +371,89 @@ behind_next (Field position offset ∷ selectors) = behind_next selectors
 abbrev pub Noting : Type 0
 Noting = Context → State → List Noted
 
+-- a call that stands in an expression, with its actual parameters: of one that is a variable what the text tells, of
+-- others nothing
+pub record Calling : Type 0 where
+  pub call : Call
+  pub actuals : List Actual
+
 -- an expression: its walk, its form, as far as that is part of a bound form, by which variables are ordinals, whether
--- it holds a call, and what is noted in it
+-- it holds a call, the calls in it, also those in actual parameters of others, and what is noted in it
 pub record Piece : Type 0 where
   pub walk : Walking Known
   pub form : (ordinal : ℕ → Bool) → Form
   pub holds_call : Bool
+  pub calls : List Calling
   pub noted : Noting
 
--- an actual parameter: its walk, and whether it holds a call
+-- an actual parameter: its walk, whether it holds a call, the calls in it, and what the text tells of it
 pub record PassedPiece : Type 0 where
   pub walk : Walking Actual
   pub holds_call : Bool
+  pub calls : List Calling
+  pub told : Actual
 
 abbrev pub hold_call : List Piece → Bool
 hold_call pieces = list_any (λ piece. piece.holds_call) pieces
+
+abbrev pub calls_in : List Piece → List Calling
+calls_in pieces = flat_map (λ piece. piece.calls) pieces
+
+-- ---- what calls touch
+
+-- by what it is told what calls touch: the program, the claims on its blocks, and the listed pairs
+pub record Callees : Type 0 where
+  pub tree : Tree
+  pub blocks : List BlockClaims
+  pub pairs : List (ℕ × ℕ)
+
+abbrev pub callees_of : Context → Callees
+callees_of context = record { tree = context.tree; blocks = context.blocks; pairs = context.pairs.pairs }
+
+-- the formal parameters of a block
+abbrev pub parameters_of : Option Block → List ℕ
+parameters_of None = []
+parameters_of (Some block) = block.heading.parameters.items
+
+-- the variables that a call may change: of what its callee lists a formal parameter stands for the variable that is
+-- passed, if one is
+abbrev pub changed_in : Callees → Calling → List ℕ
+changed_in callees calling =
+    roots_changed (bound_to (parameters_of (slice_get callees.tree.blocks.items calling.call.block)) calling.actuals)
+    (block_claims_at callees.blocks calling.call.block).changes
+
+-- a variable that is changed is another one, or may share a place with it
+abbrev pub is_or_pairs : Callees → (root changed : ℕ) → Bool
+is_or_pairs callees root changed = nat_eq changed root || is_among root (aliases_of callees.pairs changed)
+
+-- a call touches a variable
+abbrev pub touches : Callees → ℕ → Calling → Bool
+touches callees root calling = list_any (is_or_pairs callees root) (changed_in callees calling)
+
+-- a bound, by its variable, stands behind calls: none of them touches it; and a constant stands
+abbrev pub stands_behind : Callees → List Calling → Option ℕ → Bool
+stands_behind callees calls None = true
+stands_behind callees calls (Some root) = not (list_any (touches callees root) calls)
+
+abbrev pub form_behind : Callees → List Calling → Option Bound → Option Bound
+form_behind callees calls None = None
+form_behind callees calls (Some form) = if stands_behind callees calls form.root then Some form else None
+
+-- what an access reaches, of whose indexes the forms count that stand behind calls
+abbrev pub index_behind : Callees → List Calling → Index → Index
+index_behind callees calls index = record index { form = form_behind callees calls index.form }
+
+abbrev pub reach_behind : Callees → List Calling → Reach → Reach
+reach_behind callees calls reach = record reach { indexes = map (index_behind callees calls) reach.indexes }
+
+-- what was reached before other expressions were evaluated; in a version without calls beside forms nothing is known of
+-- indexes behind any call
+abbrev pub reach_before : Context → List Piece → Reach → Reach
+reach_before context later reach =
+    if has context.version Calls then reach_behind (callees_of context) (calls_in later) reach
+    else (if hold_call later then unknown_reach reach else reach)
+
+-- ---- forms
 
 -- the bound form of an expression, by which variables are ordinals, and by the rules of a version
 abbrev pub form_by : (ordinal : ℕ → Bool) → Version → Piece → Option Bound
@@ -587,12 +656,6 @@ in_turn (link ∷ links) left = do
 
 -- ---- notes
 
--- `and` and `or` join conditions
-abbrev pub joins : Dyadic → Bool
-joins dyadic.And = true
-joins dyadic.Or = true
-joins operation = false
-
 -- what is noted at an operator, by what is known to its left: both operands, or what is noted inside the right one
 abbrev pub operand_noted : (inside : Bool) → Known → Piece → Noting
 operand_noted true left right context state = right.noted context state
@@ -645,8 +708,24 @@ passed_holds (PassedValue value fits) = value.holds_call
 passed_holds (PassedWhole type_id value indexes) = hold_call (whole_indexes value indexes.items)
 passed_holds (Reference type_id access indexes) = hold_call indexes.items
 
+abbrev pub passed_calls : Passed-F Piece PassedPiece Joint → List Calling
+passed_calls (PassedValue value fits) = value.calls
+passed_calls (PassedWhole type_id value indexes) = calls_in indexes.items
+passed_calls (Reference type_id access indexes) = calls_in indexes.items
+
+-- what the text tells of an actual parameter
+abbrev pub passed_told : Passed-F Piece PassedPiece Joint → Actual
+passed_told (PassedValue value fits) = OfValue integer None
+passed_told (PassedWhole type_id value indexes) = OfRows []
+passed_told (Reference type_id access indexes) = OfVariable (origin_of access) access.selectors.items entire
+
 abbrev pub passed_step : Passed-F Piece PassedPiece Joint → PassedPiece
-passed_step actual = record { walk = passed_walk actual; holds_call = passed_holds actual }
+passed_step actual = record {
+  walk = passed_walk actual;
+  holds_call = passed_holds actual;
+  calls = passed_calls actual;
+  told = passed_told actual;
+}
 
 -- actual parameters, from left to right
 abbrev pub actuals_walk : List PassedPiece → Walking (List Actual)
@@ -659,11 +738,7 @@ actuals_walk (one ∷ others) = do
 abbrev pub actuals_hold_call : List PassedPiece → Bool
 actuals_hold_call actuals = list_any (λ actual. actual.holds_call) actuals
 
--- the formal parameters of a block, and the blocks round it
-abbrev pub parameters_of : Option Block → List ℕ
-parameters_of None = []
-parameters_of (Some block) = block.heading.parameters.items
-
+-- the blocks round a block
 abbrev pub around_of : Option Block → List ℕ
 around_of None = []
 around_of (Some block) = block.heading.around.items
@@ -786,6 +861,20 @@ holds_step (Compare number relation left left_indexes right right_indexes) =
 holds_step (CallOf call actuals) = true
 holds_step (Input number asks) = false
 
+-- and the calls in it
+abbrev pub calls_step : Expr-F Piece PassedPiece Joint → List Calling
+calls_step (Constant number value) = []
+calls_step (Variable access indexes holds defined) = calls_in indexes.items
+calls_step (SetOf number designators members) = calls_in members.items
+calls_step (MonadicOf number operation operand) = operand.value.calls
+calls_step (Chain first rest) = first.value.calls ++ flat_map (λ joint. joint.right.calls) rest.items
+calls_step (Compare number relation left left_indexes right right_indexes) =
+    calls_in left_indexes.items ++ calls_in right_indexes.items
+calls_step (CallOf call actuals) =
+    record { call = call; actuals = map (λ actual. actual.told) actuals.items }
+    ∷ flat_map (λ actual. actual.calls) actuals.items
+calls_step (Input number asks) = []
+
 -- and what is noted in it: an entry changes nothing that is known
 abbrev pub noted_step : Expr-F Piece PassedPiece Joint → Noting
 noted_step (MonadicOf number operation operand) context state = operand.value.noted context state
@@ -798,6 +887,7 @@ piece_step expression = record {
   walk = walk_step expression;
   form = form_step expression;
   holds_call = holds_step expression;
+  calls = calls_step expression;
   noted = noted_step expression;
 }
 

@@ -146,7 +146,7 @@ fn block<'b>(rows: &'b Rows, call: Call) -> Option<&'b Block>
 }
 
 /// The root numbers of its formal parameters.
-fn parameters<'b>(rows: &'b Rows, call: Call) -> &'b [u32]
+pub(crate) fn parameters<'b>(rows: &'b Rows, call: Call) -> &'b [u32]
     ensures { result.now ≡ parameters_of (block_called rows.now call) }
 {
     match block(rows, call) {

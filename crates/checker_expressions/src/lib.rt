@@ -11,6 +11,7 @@ pub mod grounds;
 pub mod noting;
 mod operations;
 mod results;
+mod touching;
 mod uses;
 mod values;
 mod walk;

@@ -159,7 +159,7 @@ impl<'a> Flow<'a> {
 }
 
 /// Whether all of these operators join conditions.
-fn join(links: &[Link]) -> bool
+pub fn join(links: &[Link]) -> bool
     ensures { result ≡ list_all (λ link. joins link.operation) links.now }
 {
     links.iter().all(|link| joins(link.operation))

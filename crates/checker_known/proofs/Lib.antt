@@ -13,3 +13,4 @@ pub mod Types
 pub mod Growing
 pub mod Arrivals
 pub mod Within
+pub mod Reached

@@ -17,6 +17,7 @@ mod told;
 
 pub use beside::Beside;
 pub use change::{Branch, Change};
+pub use had::{Ask, Wanted};
 pub(crate) use halves::{Test, edge};
 pub use knowledge::{Knowledge, Row};
 pub(crate) use order::{wrong_around, wrong_at};

@@ -15,34 +15,42 @@ use Rattle.typed_tree.specs.declared.tree.Link.{Link}
 use Rattle.typed_tree.specs.declared.tree.Expr.TheVariants as expr
 use Rattle.typed_tree.specs.declared.tree.Expr.TheFolds.{the_lemmas}
 use Rattle.typed_tree.specs.Accesses.{origin_of}
-use Rattle.checker_state.specs.State.{State}
 use Rattle.checker_state.specs.declared.forms.Form.{Form}
 use Rattle.checker_state.specs.declared.forms.Form.TheVariants.{Fixed, Entire, Other}
 use Rattle.checker_state.specs.declared.forms.Spelling.{Spelling}
 use Rattle.checker_state.specs.declared.forms.Spelling.TheVariants.{Literal, Computed}
 use Rattle.checker_state.specs.Forms.{Operand, access_form, chain_form, computed, fixed_form, moved_form, offset_form, operated_form, operated_spelling}
 use Rattle.checker_state.specs.Forms.{result_of, root_of, sign_form}
-use Rattle.checker_state.specs.Conditions.{Condition, Conjunct, chain_refined, condition_of, conjunct_of, monadic_refined, operand_of}
+use Rattle.checker_state.specs.Conditions.{Condition, Conjunct, chain_refined, chain_tellings, condition_of, conjunct_of, monadic_refined, operand_of}
+use Rattle.checker_state.specs.Conditions.{plain_condition, under}
 
 pub condition-Constant : (ordinal : ℕ → Bool) (number : ℕ) (value : ℤ)
-    → condition_of ordinal (expr.Constant number value) ≡ record { form = Fixed Literal value; refined = λ (truth : Bool) (state : State). state }
+    → condition_of ordinal (expr.Constant number value) ≡ plain_condition (Fixed Literal value) None
 condition-Constant ordinal number value = search (rules, the_lemmas)
 
 pub condition-Variable : (ordinal : ℕ → Bool) (access : Access) (indexes : Vec Expr Global) (holds : Scalar) (defined : ℕ)
     → condition_of ordinal (expr.Variable access indexes holds defined)
-    ≡ record { form = access_form ordinal (origin_of access) access.selectors.items; refined = λ (truth : Bool) (state : State). state }
+    ≡ plain_condition (access_form ordinal (origin_of access) access.selectors.items)
+    (Some (record { origin = origin_of access; selectors = access.selectors.items }))
 condition-Variable ordinal access indexes holds defined = search (rules, the_lemmas)
 
 pub condition-Monadic : (ordinal : ℕ → Bool) (number : ℕ) (operation : Monadic) (operand : Box Expr Global)
     → condition_of ordinal (expr.Monadic number operation operand)
-    ≡ record { form = sign_form (condition_of ordinal operand.value).form operation; refined = monadic_refined operation (condition_of ordinal operand.value) }
+    ≡ record {
+      form = sign_form (condition_of ordinal operand.value).form operation;
+      accessed = None;
+      refined = monadic_refined operation (condition_of ordinal operand.value);
+      tellings = λ truth. (condition_of ordinal operand.value).tellings (under operation truth);
+    }
 condition-Monadic ordinal number operation operand = search (rules, the_lemmas)
 
 pub condition-Chain : (ordinal : ℕ → Bool) (first : Box Expr Global) (rest : Vec Link Global)
     → condition_of ordinal (expr.Chain first rest)
     ≡ record {
       form = chain_form (condition_of ordinal first.value).form (map operand_of (map (conjunct_of ordinal) rest.items));
+      accessed = None;
       refined = chain_refined (condition_of ordinal first.value) (map (conjunct_of ordinal) rest.items);
+      tellings = chain_tellings (condition_of ordinal first.value) (map (conjunct_of ordinal) rest.items);
     }
 condition-Chain ordinal first rest = search (rules, the_lemmas)
 

@@ -1,5 +1,6 @@
 -- Claims that a state gives hold where it holds.
-use Rattle.std.proofs.Common.{arith, ◌≡◌, ⊎_elim, ◌∙◌, sym, ap, refl, subst, ℕ, ℤ, pos, ◌+ℤ◌, ◌≤ℤ◌, true, ◌&&◌, ◌||◌, nat_eq, nat_lt}
+use Rattle.std.proofs.Common.{arith, if◌then◌else◌, ◌≡◌, ⊎_elim, ◌∙◌, sym, ap, refl, subst, ℕ, ℤ, pos, ◌+ℤ◌, ◌≤ℤ◌, Bool, true, false, ◌&&◌, ◌||◌, nat_eq}
+use Rattle.std.proofs.Common.{nat_lt}
 use Rattle.std.proofs.Common.{List, [], ◌∷◌, ◌⊎◌, inl, inr, drop, map, take, Option, Some, None}
 use Rattle.std.specs.List.{list_any}
 use Rattle.std.proofs.lemmas.Int.{by_lt_z, ints}
@@ -10,12 +11,12 @@ use Rattle.types.specs.declared.form.Step.TheVariants as step
 use Rattle.meaning.specs.Store.{Environment, Store}
 use Rattle.checker_rows.specs.Rows.{LieIn, Parts, first_index, indexes_of}
 use Rattle.domain.specs.Versions.{has}
-use Rattle.domain.specs.declared.versions.Extension.TheVariants.{Blocks}
+use Rattle.domain.specs.declared.versions.Extension.TheVariants.{Blocks, Boxes}
 use Rattle.checker_state.specs.Bounds.{Bound, constant, plus, raised_bound}
 use Rattle.checker_state.specs.State.{Claim, Dead, Defined, Facts, Held, Holds as Holding, Live, Ordered, Range, Span, State, Stretch, Stretched, Table}
 use Rattle.checker_state.specs.State.{Wanted, all_indexes, begin_in_time, begins, covers, gives, gives_claim, gives_stretch, go_on, has_number, has_span}
 use Rattle.checker_state.specs.State.{has_value, has_values, have_spans, have_values, is_covered, is_empty, is_had, is_joined, joins}
-use Rattle.checker_state.specs.State.{is_spanned, is_whole, le, row_at, state_gives, wanted_of}
+use Rattle.checker_state.specs.State.{is_joined_inside, is_spanned, is_whole, le, row_at, state_gives, wanted_of}
 use Rattle.checker_state.specs.Holds.{AreBounds, AreDefined, FactsHold, HasNumber, HasValue, HeldHolds, Holds, IsBound, IsBoundBy, IsWhole, LieBetween, Moment}
 use Rattle.checker_state.specs.Holds.{HoldNumbers, IndexesLie, IsOfRow, HasComponent, Numbers, StateHolds, StretchHolds, moment}
 use Rattle.checker_state.specs.Knows.{AreRows, Shows}
@@ -69,6 +70,13 @@ first-between [] indexes lie = tt
 first-between (one ∷ numbers) [] lie = absurd lie
 first-between (one ∷ numbers) (index ∷ indexes) lie = (lie.0, lie.1, tt)
 
+-- an index of a second one of some values lies between the first and the last of these
+second-between : (first second : OrdinalRange) (ranges : List OrdinalRange) (own : Numbers) (indexes : List ℤ) → LieIn (first ∷ second ∷ ranges) indexes
+    → LieBetween (own ∷ []) indexes → LieBetween (own ∷ record { first = second.first; last = second.last } ∷ []) indexes
+second-between first second ranges own [] inside lie = absurd lie
+second-between first second ranges own (index ∷ []) inside lie = absurd inside.2
+second-between first second ranges own (index ∷ other ∷ indexes) inside lie = (lie.0, lie.1, (inside.2.0, inside.2.1, tt))
+
 module _ (rows : List Parts) (m : Moment) (known : Facts) (told : IsTold rows m known) where
   -- what is asked of spans between bounds is so of their numbers
   pub wanted-is : (span : Span) (numbers : Numbers) → IsBound m span.first numbers.first → IsBound m span.last numbers.last
@@ -117,9 +125,20 @@ module _ (rows : List Parts) (m : Moment) (known : Facts) (told : IsTold rows m 
         spans-have (drop 1 ranges) wanted held between around indexes parts.1 inner.1 outer.2 (lie-behind ranges index indexes inside) lie.2,
       )
 
+  -- an index between wanted numbers lies between those of a span that has what is wanted
+  between-held : (want : Wanted) (span : Span) (own around : Numbers) (index : ℤ) → IsWanted m want own → IsBound m span.first around.first
+      → IsBound m span.last around.last → has_span want span ≡ true → own.first ≤ℤ index → index ≤ℤ own.last
+      → (around.first ≤ℤ index) × (index ≤ℤ around.last)
+  between-held want span own around index wanted first last is low high =
+      let both = and_parts (want.begins span.first) (want.ends span.last) is in
+      let below : around.first ≤ℤ own.first = wanted.from span.first around.first first both.0 in
+      let above : own.last ≤ℤ around.last = wanted.to span.last around.last last both.1 in
+      (omega (arith, ints), omega (arith, ints))
+
   -- they lie between those of one of two lists of spans, of which the one begins in time and the other goes on from it
   spans-join : (ranges : List OrdinalRange) (wanted : List Wanted) (one other : List Span) (between around beyond : List Numbers) (indexes : List ℤ)
-      → begin_in_time known ranges wanted one ≡ true → go_on known ranges wanted one other ≡ true → AreWanted m wanted between → AreBounds m one around
+      → begin_in_time false known ranges wanted one ≡ true → go_on false known ranges wanted one other ≡ true → AreWanted m wanted between → AreBounds m one
+      around
       → AreBounds m other beyond → LieIn ranges indexes → LieBetween between indexes → LieBetween around indexes ⊎ LieBetween beyond indexes
   spans-join ranges [] one other between around beyond indexes begin goes inner first next inside lie = absurd (cc)
   spans-join ranges (want ∷ wanted) [] other between around beyond indexes begin goes inner first next inside lie = absurd (cc)
@@ -149,6 +168,38 @@ module _ (rows : List Parts) (m : Moment) (known : Facts) (told : IsTold rows m 
       inr (omega (arith, ints), omega (arith, ints), spans-have (drop 1 ranges) wanted other between beyond indexes ending.1 inner.1 next.2 behind lie.2))
       (λ within_it.
       inl (omega (arith, ints), omega (arith, ints), spans-have (drop 1 ranges) wanted one between around indexes beginning.1 inner.1 first.2 behind lie.2))
+
+  -- the same where they do so behind the first span
+  spans-join-behind : (ranges : List OrdinalRange) (wanted : List Wanted) (one other : List Span) (between around beyond : List Numbers) (indexes : List ℤ)
+      → begin_in_time true known ranges wanted one ≡ true → go_on true known ranges wanted one other ≡ true → AreWanted m wanted between
+      → AreBounds m one around → AreBounds m other beyond → LieIn ranges indexes → LieBetween between indexes
+      → LieBetween around indexes ⊎ LieBetween beyond indexes
+  spans-join-behind ranges [] one other between around beyond indexes begin goes inner first next inside lie = absurd (cc)
+  spans-join-behind ranges (want ∷ wanted) [] other between around beyond indexes begin goes inner first next inside lie = absurd (cc)
+  spans-join-behind ranges (want ∷ wanted) (span ∷ one) [] between around beyond indexes begin goes inner first next inside lie = absurd (cc)
+  spans-join-behind ranges (want ∷ wanted) (span ∷ one) (more ∷ other) [] around beyond indexes begin goes inner first next inside lie = absurd inner
+  spans-join-behind ranges (want ∷ wanted) (span ∷ one) (more ∷ other) (own ∷ between) [] beyond indexes begin goes inner first next inside lie = absurd first
+  spans-join-behind ranges (want ∷ wanted) (span ∷ one) (more ∷ other) (own ∷ between) (low ∷ around) [] indexes begin goes inner first next inside lie =
+      absurd next
+  spans-join-behind ranges (want ∷ wanted) (span ∷ one) (more ∷ other) (own ∷ between) (low ∷ around) (high ∷ beyond) [] begin goes inner first next inside lie
+      = absurd lie
+  spans-join-behind ranges (want ∷ wanted) (span ∷ one) (more ∷ other) (own ∷ between) (low ∷ around) (high ∷ beyond) (index ∷ indexes) begin goes inner first
+      next inside lie =
+      let beginning = and_parts (has_span want span) (begin_in_time false known (drop 1 ranges) wanted one) begin in
+      let going = and_parts (has_span want more) (go_on false known (drop 1 ranges) wanted one other) goes in
+      let here = between-held want span own low index inner.0 first.0 first.1 beginning.0 lie.0 lie.1 in
+      let there = between-held want more own high index inner.0 next.0 next.1 going.0 lie.0 lie.1 in
+      ⊎_elim (λ by_one. inl (here.0, here.1, by_one)) (λ by_other. inr (there.0, there.1, by_other))
+      (spans-join (drop 1 ranges) wanted one other between around beyond indexes beginning.1 going.1 inner.1 first.2 next.2
+      (lie-behind ranges index indexes inside) lie.2)
+
+  -- by the first of the spans, or by the second
+  spans-join-by : (behind : Bool) (ranges : List OrdinalRange) (wanted : List Wanted) (one other : List Span) (between around beyond : List Numbers)
+      (indexes : List ℤ) → begin_in_time behind known ranges wanted one ≡ true → go_on behind known ranges wanted one other ≡ true → AreWanted m wanted between
+      → AreBounds m one around → AreBounds m other beyond → LieIn ranges indexes → LieBetween between indexes
+      → LieBetween around indexes ⊎ LieBetween beyond indexes
+  spans-join-by false = spans-join
+  spans-join-by true = spans-join-behind
 
   -- no index lies in spans of which one is empty
   none-between : (spans : List Span) (numbers : List Numbers) (indexes : List ℤ) → list_any (is_empty known) spans ≡ true → AreBounds m spans numbers
@@ -183,46 +234,78 @@ module _ (rows : List Parts) (m : Moment) (known : Facts) (told : IsTold rows m 
         let found = any-in (covers known ranges row wanted) known.held is in covered-by found.0 (told.held found.0 found.1) found.2
 
     -- where two have them together
-    joined-by : (one other : Held) → HeldHolds rows one m → HeldHolds rows other m → begins known ranges row wanted one ≡ true
-        → joins known ranges row wanted one other ≡ true → AreDefined rows row numbers m
-    joined-by (Ordered root by number) other holds also begin goes = absurd (cc)
-    joined-by (Stretched one) (Ordered root by number) holds also begin goes = absurd (cc)
-    joined-by (Stretched one) (Stretched other) (around, around_are, each) (beyond, beyond_are, more) begin goes =
-        let first = and_parts (nat_eq row one.row) (begin_in_time known ranges wanted one.spans) begin in
-        let next = and_parts (nat_eq row other.row) (go_on known ranges wanted one.spans other.spans) goes in
+    joined-by : (behind : Bool) (one other : Held) → HeldHolds rows one m → HeldHolds rows other m → begins known ranges row wanted behind one ≡ true
+        → joins known ranges row wanted behind one other ≡ true → AreDefined rows row numbers m
+    joined-by behind (Ordered root by number) other holds also begin goes = absurd (cc)
+    joined-by behind (Stretched one) (Ordered root by number) holds also begin goes = absurd (cc)
+    joined-by behind (Stretched one) (Stretched other) (around, around_are, each) (beyond, beyond_are, more) begin goes =
+        let first = and_parts (nat_eq row one.row) (begin_in_time behind known ranges wanted one.spans) begin in
+        let next = and_parts (nat_eq row other.row) (go_on behind known ranges wanted one.spans other.spans) goes in
         let same : row ≡ one.row = eqb-true row one.row first.0 in
         let also : row ≡ other.row = eqb-true row other.row next.0 in
         λ steps index of_row at lie.
         ⊎_elim
         (λ inside. subst (λ (r : ℕ). HasComponent rows m r steps) (sym same) (each steps index (subst (λ (r : ℕ). IsOfRow rows r steps) same of_row) at inside))
         (λ inside. subst (λ (r : ℕ). HasComponent rows m r steps) (sym also) (more steps index (subst (λ (r : ℕ). IsOfRow rows r steps) also of_row) at inside))
-        (spans-join ranges wanted one.spans other.spans numbers around beyond (indexes_of steps) first.1 next.1 are around_are beyond_are (lies steps of_row)
-        lie)
+        (spans-join-by behind ranges wanted one.spans other.spans numbers around beyond (indexes_of steps) first.1 next.1 are around_are beyond_are
+        (lies steps of_row) lie)
 
-    pub joined : is_joined known ranges row wanted ≡ true → AreDefined rows row numbers m
-    joined is =
-        let first = any-in (λ one. begins known ranges row wanted one && list_any (joins known ranges row wanted one) known.held) known.held is in
-        let parts = and_parts (begins known ranges row wanted first.0) (list_any (joins known ranges row wanted first.0) known.held) first.2 in
-        let next = any-in (joins known ranges row wanted first.0) known.held parts.1 in
-        joined-by first.0 next.0 (told.held first.0 first.1) (told.held next.0 next.1) parts.0 next.2
+    pub joined : (behind : Bool) → is_joined known ranges row wanted behind ≡ true → AreDefined rows row numbers m
+    joined behind is =
+        let begin = begins known ranges row wanted behind in
+        let join = joins known ranges row wanted behind in
+        let first = any-in (λ one. begin one && list_any (join one) known.held) known.held is in
+        let parts = and_parts (begin first.0) (list_any (join first.0) known.held) first.2 in
+        let next = any-in (join first.0) known.held parts.1 in
+        joined-by behind first.0 next.0 (told.held first.0 first.1) (told.held next.0 next.1) parts.0 next.2
+
+  -- where two have them together by their second spans
+  joined-inside : (ranges : List OrdinalRange) (row : ℕ) → IndexesLie rows row ranges → (wanted : List Wanted) (numbers : List Numbers)
+      → AreWanted m wanted numbers → is_joined_inside known ranges row wanted ≡ true → AreDefined rows row numbers m
+  joined-inside ranges row lies [] numbers are is = absurd (cc)
+  joined-inside [] row lies (one ∷ []) numbers are is = absurd (cc)
+  joined-inside (first ∷ []) row lies (one ∷ []) numbers are is = absurd (cc)
+  joined-inside (first ∷ second ∷ ranges) row lies (one ∷ []) [] are is = absurd are
+  joined-inside (first ∷ second ∷ ranges) row lies (one ∷ []) (own ∷ more ∷ numbers) are is = absurd are.1
+  joined-inside (first ∷ second ∷ ranges) row lies (one ∷ []) (own ∷ []) are is =
+      let all : Numbers = record { first = second.first; last = second.last } in
+      let inner = wanted-is (all_indexes second) all refl refl in
+      λ steps index of_row at lie.
+      joined (first ∷ second ∷ ranges) row lies (one ∷ wanted_of known (all_indexes second) ∷ []) (own ∷ all ∷ []) (are.0, (inner, tt)) true is steps index
+      of_row at
+      (second-between first second ranges own (indexes_of steps) (lies steps of_row) lie)
+  joined-inside ranges row lies (one ∷ two ∷ wanted) numbers are is =
+      ⊎_elim (joined ranges row lies (one ∷ two ∷ wanted) numbers are true) (joined ranges row lies (one ∷ two ∷ wanted) numbers are false)
+      (or_cases (is_joined known ranges row (one ∷ two ∷ wanted) true) (is_joined known ranges row (one ∷ two ∷ wanted) false) is)
 
   -- the components that are wanted, where they are had
   pub had : (ranges : List OrdinalRange) (row : ℕ) → IndexesLie rows row ranges → (wanted : List Wanted) (numbers : List Numbers)
       → AreWanted m wanted numbers → is_had known ranges row wanted ≡ true → AreDefined rows row numbers m
   had ranges row lies wanted numbers are is =
       let one = is_covered known ranges row (take 1 wanted) in
-      let two = is_joined known ranges row (take 1 wanted) in
+      let two = is_joined known ranges row (take 1 wanted) false in
+      let blocks = has known.rules Blocks && (one || two) in
+      let boxes = has known.rules Boxes && is_joined_inside known ranges row wanted in
       let first = first-wanted m wanted numbers are in
       ⊎_elim (covered ranges row lies wanted numbers are)
-      (λ (blocks : (has known.rules Blocks && (one || two)) ≡ true) steps index of_row at lie.
+      (λ more. ⊎_elim
+      (λ by_blocks steps index of_row at lie.
       ⊎_elim (λ by_one. covered ranges row lies (take 1 wanted) (take 1 numbers) first by_one steps index of_row at
       (first-between numbers (indexes_of steps) lie))
-      (λ by_two. joined ranges row lies (take 1 wanted) (take 1 numbers) first by_two steps index of_row at
+      (λ by_two. joined ranges row lies (take 1 wanted) (take 1 numbers) first false by_two steps index of_row at
       (first-between numbers (indexes_of steps) lie))
-      (or_cases one two (and_parts (has known.rules Blocks) (one || two) blocks).1))
-      (or_cases (is_covered known ranges row wanted) (has known.rules Blocks && (one || two)) is)
+      (or_cases one two (and_parts (has known.rules Blocks) (one || two) by_blocks).1))
+      (λ by_boxes.
+      joined-inside ranges row lies wanted numbers are (and_parts (has known.rules Boxes) (is_joined_inside known ranges row wanted) by_boxes).1)
+      (or_cases blocks boxes more))
+      (or_cases (is_covered known ranges row wanted) (blocks || boxes) is)
 
 -- ---- what is given
+
+-- of two tests one is asked, and what follows from each is so
+spanned-by : {A : Type 0} (boxes one other : Bool) → (one ≡ true → A) → (other ≡ true → A) → (if boxes then one else other) ≡ true → A
+spanned-by true one other by_one by_other is = by_one is
+spanned-by false one other by_one by_other is = by_other is
 
 module _ (rows : List Parts) (table : Table) (are : AreRows rows table) (env : Environment) (shows : Shows table.variables env) (store : Store)
     (numbers : HoldNumbers table.ordinal (moment env store)) (known : Facts)
@@ -270,9 +353,12 @@ module _ (rows : List Parts) (table : Table) (are : AreRows rows table) (env : E
       let (index, first, low, high) = first-lies range ranges steps (lies steps of_row) in
       let all = first-of steps index first in
       let values : Numbers = record { first = range.first; last = range.last } in
-      covered rows m known told (range ∷ ranges) row lies (wanted_of known (all_indexes range) ∷ []) (values ∷ [])
-      (wanted-is rows m known told (all_indexes range) values refl refl, tt) is steps index of_row first
-      (subst (LieBetween (values ∷ [])) (sym all.1) (low, high, tt))
+      let wanted = wanted_of known (all_indexes range) ∷ [] in
+      let asked : AreWanted m wanted (values ∷ []) = (wanted-is rows m known told (all_indexes range) values refl refl, tt) in
+      spanned-by (has known.rules Boxes) (is_had known (range ∷ ranges) row wanted) (is_covered known (range ∷ ranges) row wanted)
+      (had rows m known told (range ∷ ranges) row lies wanted (values ∷ []) asked)
+      (covered rows m known told (range ∷ ranges) row lies wanted (values ∷ []) asked)
+      is steps index of_row first (subst (LieBetween (values ∷ [])) (sym all.1) (low, high, tt))
 
   -- each component of a row
   pub whole-holds : (row : ℕ) → is_whole table known row ≡ true → IsWhole rows row m

@@ -243,20 +243,21 @@ module _ (known : Facts) (indexes : List OrdinalRange) (row : ℕ) (wanted : Lis
   covers-outside (Ordered x y number) outside = refl
   covers-outside (Stretched stretch) outside = row-outside row stretch.row (have_spans known indexes wanted stretch.spans) outside
 
-  begins-outside : (one : Held) → Outside (group.Row row) one → begins known indexes row wanted one ≡ false
-  begins-outside (Ordered x y number) outside = refl
-  begins-outside (Stretched stretch) outside = row-outside row stretch.row (begin_in_time known indexes wanted stretch.spans) outside
+  module _ (inside : Bool) where
+    begins-outside : (one : Held) → Outside (group.Row row) one → begins known indexes row wanted inside one ≡ false
+    begins-outside (Ordered x y number) outside = refl
+    begins-outside (Stretched stretch) outside = row-outside row stretch.row (begin_in_time inside known indexes wanted stretch.spans) outside
 
-  pub joined-outside : (one : Held) → Outside (group.Row row) one
-      → (begins known indexes row wanted one && list_any (joins known indexes row wanted one) known.held) ≡ false
-  joined-outside one outside =
-      ap (λ (b : Bool). b && list_any (joins known indexes row wanted one) known.held) (begins-outside one outside)
+    pub joined-outside : (one : Held) → Outside (group.Row row) one
+        → (begins known indexes row wanted inside one && list_any (joins known indexes row wanted inside one) known.held) ≡ false
+    joined-outside one outside =
+        ap (λ (b : Bool). b && list_any (joins known indexes row wanted inside one) known.held) (begins-outside one outside)
 
-  pub joins-outside : (one other : Held) → Outside (group.Row row) other → joins known indexes row wanted one other ≡ false
-  joins-outside (Ordered x y number) other outside = refl
-  joins-outside (Stretched one) (Ordered x y number) outside = refl
-  joins-outside (Stretched one) (Stretched other) outside =
-      row-outside row other.row (go_on known indexes wanted one.spans other.spans) outside
+    pub joins-outside : (one other : Held) → Outside (group.Row row) other → joins known indexes row wanted inside one other ≡ false
+    joins-outside (Ordered x y number) other outside = refl
+    joins-outside (Stretched one) (Ordered x y number) outside = refl
+    joins-outside (Stretched one) (Stretched other) outside =
+        row-outside row other.row (go_on inside known indexes wanted one.spans other.spans) outside
 
 module _ (known : Facts) (row : ℕ) where
   pub longer-outside : (indexes : List Bound) (one : Held) → Outside (group.Row row) one → longer known row indexes one ≡ None

@@ -49,7 +49,7 @@ use Rattle.checker_state.specs.declared.forms.Spelling.TheVariants.{Computed}
 use Rattle.checker_state.specs.Forms.{Operand, access_form, bound_of, chain_form, computed, fixed_form, moved_form, offset_form, operated_form}
 use Rattle.checker_state.specs.Forms.{operated_spelling, result_of, sign_form, stands}
 use Rattle.checker_state.specs.Conditions.{Condition, Conjunct, all_refined, bound_form, chain_refined, condition_of, condition_step, conjunct_of}
-use Rattle.checker_state.specs.Conditions.{link_condition}
+use Rattle.checker_state.specs.Conditions.{chain_tellings, link_condition, under}
 use Rattle.checker_state.specs.Conditions.{monadic_refined, operand_of, operation_refined, passed_condition, related_forms, single_refined, takes_both, told}
 use Rattle.checker_state.specs.Conditions.{unless_excluded}
 use Rattle.checker_state.specs.Holds.{Moment, HasNumber, HoldNumbers, moment, part_of, value_at}
@@ -405,10 +405,26 @@ module _ (ordinal : ℕ → Bool) where
       subst (λ (b : Bool). Preserves env store (condition.refined b)) swapped refines
   monadic-preserves operation condition env store n refines = λ rows table are state known. known
 
+  abbrev monadic_condition : Monadic → Condition → Condition
+  monadic_condition operation condition = record {
+    form = sign_form condition.form operation;
+    accessed = None;
+    refined = monadic_refined operation condition;
+    tellings = λ truth. condition.tellings (under operation truth);
+  }
+
+  abbrev chain_condition : Condition → List Conjunct → Condition
+  chain_condition first conjuncts = record {
+    form = chain_form first.form (map operand_of conjuncts);
+    accessed = None;
+    refined = chain_refined first conjuncts;
+    tellings = chain_tellings first conjuncts;
+  }
+
   monadic-evaluates : (operation : Monadic) (condition : Condition) (holds : Bool) (env : Environment) (s u t : effect.State) (a w : Value)
       → Evaluates env condition holds s.store u.store a
       → and_then (meaning.operated operation (number_of a) u) (λ n. effect.give (Number n)) ≡ Gives w t
-      → Evaluates env (record { form = sign_form condition.form operation; refined = monadic_refined operation condition }) holds s.store t.store w
+      → Evaluates env (monadic_condition operation condition) holds s.store t.store w
   monadic-evaluates operation condition holds env s u t a w one is =
       let (m, operated, w_is) = number-gives (meaning.operated operation (number_of a) u) w t is in
       let gives = operated-gives operation (number_of a) m u t operated in
@@ -429,7 +445,7 @@ module _ (ordinal : ℕ → Bool) where
 
   chain-evaluates : (first : Condition) (holds : Bool) (links : List ProvedLink) (env : Surroundings) (s u t : effect.State) (left result : Value)
       → Evaluates env.visible first holds s.store u.store left → turns links env left u ≡ Gives result t
-      → Evaluates env.visible (record { form = chain_of first.form links; refined = chain_refined first (conjuncts_of links) }) (holds || calls_in links)
+      → Evaluates env.visible (chain_condition first (conjuncts_of links)) (holds || calls_in links)
       s.store t.store result
   chain-evaluates first holds links env s u t left result one is =
       let conjuncts = conjuncts_of links in

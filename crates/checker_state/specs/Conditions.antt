@@ -1,7 +1,8 @@
 -- What is known where a condition had a truth value (ISO 7185:1990, 6.7.2.3, 6.7.2.5, 6.8.3.4). It does not say which
 -- truth value a condition has.
 use Rattle.std.specs.Prelude.{ℕ, ℤ, pos, ◌+ℤ◌, ◌-ℤ◌, int_le, Bool, true, false, not, List, [], ◌∷◌, Option, Some, None}
-use Rattle.std.specs.Prelude.{if◌then◌else◌, map}
+use Rattle.std.specs.Prelude.{◌++◌, if◌then◌else◌, map}
+use Rattle.std.specs.Option.{option_map}
 use Rattle.std.specs.List.{list_all}
 use Rattle.std.specs.Ordering.{int_eq}
 use Rattle.typed_tree.specs.declared.tree.Monadic.{Monadic}
@@ -17,7 +18,8 @@ use Rattle.typed_tree.specs.declared.tree.Expr.TheOpen.{Expr-F, Passed-F, Link-F
 use Rattle.typed_tree.specs.declared.tree.Expr.TheOpen.Expr-F.{Constant, Variable, Monadic as MonadicOf, Chain}
 use Rattle.typed_tree.specs.declared.tree.Expr.TheOpen.Expr-F.{Compare, Call, Set, Input}
 use Rattle.typed_tree.specs.declared.tree.Expr.TheFolds.{fold-Expr, fold-Link}
-use Rattle.typed_tree.specs.Accesses.{origin_of}
+use Rattle.typed_tree.specs.declared.tree.Selector.{Selector}
+use Rattle.typed_tree.specs.Accesses.{Origin, origin_of}
 use Rattle.typed_tree.specs.Calls.{holds_call}
 use Rattle.domain.specs.Interval.{Interval, always_true, at_least, at_most, never_true}
 use Rattle.domain.specs.declared.versions.Version.{Version}
@@ -120,10 +122,30 @@ related_forms r left right state = state
 
 -- ---- conditions
 
--- a condition, or an operand of one: its form, and what is known where it had a truth value
+-- what is accessed
+pub record Accessed : Type 0 where
+  pub origin : Origin
+  pub selectors : List Selector
+
+-- an operand of an operator: its form, and what it accesses, if it is an access
+pub record Subject : Type 0 where
+  pub form : Form
+  pub accessed : Option Accessed
+
+-- an operator between two operands, and the truth value that it had, if that is known
+pub record Telling : Type 0 where
+  pub truth : Option Bool
+  pub operation : Dyadic
+  pub left : Subject
+  pub right : Subject
+
+-- a condition, or an operand of one: its form, what it accesses, if it is an access, what is known where it had a truth
+-- value, and which operators tell something of their operands, by the truth value that it had, if that is known
 pub record Condition : Type 0 where
   pub form : Form
+  pub accessed : Option Accessed
   pub refined : Bool → State → State
+  pub tellings : Option Bool → List Telling
 
 -- an operator of a condition, and its right operand
 pub record Conjunct : Type 0 where
@@ -169,6 +191,49 @@ abbrev pub monadic_refined : Monadic → Condition → Bool → State → State
 monadic_refined (monadic.Plain calculation.Complement) operand truth state = operand.refined (not truth) state
 monadic_refined operation operand truth state = state
 
+-- ---- the operators of a condition
+
+-- `and` and `or` join conditions
+abbrev pub joins : Dyadic → Bool
+joins dyadic.And = true
+joins dyadic.Or = true
+joins operation = false
+
+-- a condition as an operand
+abbrev pub subject_of : Condition → Subject
+subject_of condition = record { form = condition.form; accessed = condition.accessed }
+
+-- the truth value that each operand of a chain takes from the whole, if it takes one
+abbrev pub taken : List Conjunct → Option Bool → Option Bool
+taken conjuncts None = None
+taken conjuncts (Some truth) =
+    if list_all (λ conjunct. takes_both truth conjunct.operation) conjuncts then Some truth else None
+
+-- what is told inside of right operands
+abbrev pub all_tellings : List Conjunct → Option Bool → List Telling
+all_tellings [] truth = []
+all_tellings (conjunct ∷ conjuncts) truth = conjunct.right.tellings truth ++ all_tellings conjuncts truth
+
+-- what operators tell behind a first operand: a single one had the truth value of the whole
+abbrev pub turn_tellings : Subject → List Conjunct → Option Bool → List Telling
+turn_tellings left [] truth = []
+turn_tellings left (conjunct ∷ []) truth =
+    record { truth = truth; operation = conjunct.operation; left = left; right = subject_of conjunct.right } ∷ []
+turn_tellings left (conjunct ∷ next ∷ conjuncts) truth =
+    record { truth = None; operation = conjunct.operation; left = left; right = subject_of conjunct.right }
+    ∷ turn_tellings left (next ∷ conjuncts) None
+
+-- a chain of operators: where they join conditions, these tell something, and else the operators do
+abbrev pub chain_tellings : Condition → List Conjunct → Option Bool → List Telling
+chain_tellings first conjuncts truth = if list_all (λ conjunct. joins conjunct.operation) conjuncts
+    then first.tellings (taken conjuncts truth) ++ all_tellings conjuncts (taken conjuncts truth)
+    else turn_tellings (subject_of first) conjuncts truth
+
+-- the truth value of an operand, by that of an operation on it
+abbrev pub under : Monadic → Option Bool → Option Bool
+under (monadic.Plain calculation.Complement) truth = option_map not truth
+under operation truth = None
+
 abbrev pub link_condition : Link-F Condition (Unit {0}) Conjunct → Conjunct
 link_condition link = record { operation = link.operation; right = link.operand }
 
@@ -180,25 +245,38 @@ passed_condition actual = tt
 abbrev pub unless_excluded : Bool → Interval → State → State
 unless_excluded truth range state = if (if truth then never_true range else always_true range) then Dead else state
 
+-- an expression that tells nothing
+abbrev pub plain_condition : Form → Option Accessed → Condition
+plain_condition form accessed = record {
+  form = form;
+  accessed = accessed;
+  refined = λ truth state. state;
+  tellings = λ truth. [];
+}
+
 -- by what is told of variables, which of them are ordinals
 module _ (ordinal : ℕ → Bool) where
   abbrev pub condition_step : Expr-F Condition (Unit {0}) Conjunct → Condition
-  condition_step (Constant number value) = record { form = Fixed Literal value; refined = λ truth state. state }
+  condition_step (Constant number value) = plain_condition (Fixed Literal value) None
   condition_step (Variable access indexes holds defined) =
-      record { form = access_form ordinal (origin_of access) access.selectors.items; refined = λ truth state. state }
+      plain_condition (access_form ordinal (origin_of access) access.selectors.items)
+      (Some (record { origin = origin_of access; selectors = access.selectors.items }))
   condition_step (MonadicOf number operation operand) = record {
     form = sign_form operand.value.form operation;
+    accessed = None;
     refined = monadic_refined operation operand.value;
+    tellings = λ truth. operand.value.tellings (under operation truth);
   }
   condition_step (Chain first rest) = record {
     form = chain_form first.value.form (map operand_of rest.items);
+    accessed = None;
     refined = chain_refined first.value rest.items;
+    tellings = chain_tellings first.value rest.items;
   }
-  condition_step (Compare number relation left left_indexes right right_indexes) =
-      record { form = Other; refined = λ truth state. state }
-  condition_step (Set number designators members) = record { form = Other; refined = λ truth state. state }
-  condition_step (Call call actuals) = record { form = Other; refined = λ truth state. state }
-  condition_step (Input number asks) = record { form = Other; refined = λ truth state. state }
+  condition_step (Compare number relation left left_indexes right right_indexes) = plain_condition Other None
+  condition_step (Set number designators members) = plain_condition Other None
+  condition_step (Call call actuals) = plain_condition Other None
+  condition_step (Input number asks) = plain_condition Other None
 
   -- an expression as a condition
   abbrev pub condition_of : Expr → Condition

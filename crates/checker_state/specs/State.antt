@@ -15,7 +15,7 @@ use Rattle.typed_tree.specs.declared.tree.Tree.{Tree}
 use Rattle.checker_rows.specs.Rows.{indexes_at, is_ordinal_variable, rows_of}
 use Rattle.domain.specs.Interval.{Interval, is_included, is_vacant, vacant}
 use Rattle.domain.specs.Versions.{has}
-use Rattle.domain.specs.declared.versions.Extension.TheVariants.{Blocks}
+use Rattle.domain.specs.declared.versions.Extension.TheVariants.{Blocks, Boxes}
 use Rattle.domain.specs.declared.versions.Version.{Version}
 use Rattle.checker_state.specs.Bounds.{Bound, bound_order, constant, is_at_most, is_variable, plus, raised_bound}
 use Rattle.checker_state.specs.declared.growing.Growing.{Growing}
@@ -249,18 +249,24 @@ have_spans known [] [] (span ∷ held) = false
 have_spans known (range ∷ indexes) [] (span ∷ held) =
     has_span (wanted_of known (all_indexes range)) span && have_spans known indexes [] held
 
--- spans begin in time, and behind the first of them have all that is wanted
-abbrev pub begin_in_time : Facts → List OrdinalRange → List Wanted → (held : List Span) → Bool
-begin_in_time known indexes (one ∷ wanted) (span ∷ held) =
+-- spans begin in time, and behind the first of them have all that is wanted; or they do so behind the first, which has
+-- what is wanted of it
+abbrev pub begin_in_time : (inside : Bool) → Facts → List OrdinalRange → List Wanted → (held : List Span) → Bool
+begin_in_time false known indexes (one ∷ wanted) (span ∷ held) =
     one.begins span.first && have_spans known (drop 1 indexes) wanted held
-begin_in_time known indexes wanted held = false
+begin_in_time true known indexes (one ∷ wanted) (span ∷ held) =
+    has_span one span && begin_in_time false known (drop 1 indexes) wanted held
+begin_in_time inside known indexes wanted held = false
 
--- other spans go on from these to the wanted end: the first of them begins at the latest behind the last index of these
-abbrev pub go_on : Facts → List OrdinalRange → List Wanted → (held next : List Span) → Bool
-go_on known indexes (one ∷ wanted) (span ∷ held) (other ∷ next) =
+-- other spans go on from these to the wanted end: the first of them begins at the latest behind the last index of
+-- these; or they do so behind the first, which has what is wanted of it
+abbrev pub go_on : (inside : Bool) → Facts → List OrdinalRange → List Wanted → (held next : List Span) → Bool
+go_on false known indexes (one ∷ wanted) (span ∷ held) (other ∷ next) =
     le known other.first (raised_bound (pos 1) span.last)
     && (one.ends other.last && have_spans known (drop 1 indexes) wanted next)
-go_on known indexes wanted held next = false
+go_on true known indexes (one ∷ wanted) (span ∷ held) (other ∷ next) =
+    has_span one other && go_on false known (drop 1 indexes) wanted held next
+go_on inside known indexes wanted held next = false
 
 -- what is held of a row whose indexes are of these values
 module _ (known : Facts) (indexes : List OrdinalRange) (row : ℕ) (wanted : List Wanted) where
@@ -272,46 +278,63 @@ module _ (known : Facts) (indexes : List OrdinalRange) (row : ℕ) (wanted : Lis
   abbrev pub covers : Held → Bool
   covers one = stretch_covers (stretch_in one)
 
-  abbrev pub stretch_begins : Option Stretch → Bool
-  stretch_begins None = false
-  stretch_begins (Some stretch) = nat_eq row stretch.row && begin_in_time known indexes wanted stretch.spans
-
-  -- it has it from the beginning on
-  abbrev pub begins : Held → Bool
-  begins one = stretch_begins (stretch_in one)
-
-  abbrev pub stretches_join : (one other : Option Stretch) → Bool
-  stretches_join (Some one) (Some other) = nat_eq row other.row && go_on known indexes wanted one.spans other.spans
-  stretches_join one other = false
-
-  -- another has the rest to the end
-  abbrev pub joins : (one other : Held) → Bool
-  joins one other = stretches_join (stretch_in one) (stretch_in other)
-
-  -- one has it all, or two have it together
+  -- one has it all
   abbrev pub is_covered : Bool
   is_covered = list_any covers known.held
 
-  abbrev pub is_joined : Bool
-  is_joined = list_any (λ one. begins one && list_any (joins one) known.held) known.held
+  -- two have it together, by the first of the spans or by the second
+  module _ (inside : Bool) where
+    abbrev pub stretch_begins : Option Stretch → Bool
+    stretch_begins None = false
+    stretch_begins (Some stretch) = nat_eq row stretch.row && begin_in_time inside known indexes wanted stretch.spans
+
+    -- it has it from the beginning on
+    abbrev pub begins : Held → Bool
+    begins one = stretch_begins (stretch_in one)
+
+    abbrev pub stretches_join : (one other : Option Stretch) → Bool
+    stretches_join (Some one) (Some other) =
+        nat_eq row other.row && go_on inside known indexes wanted one.spans other.spans
+    stretches_join one other = false
+
+    -- another has the rest to the end
+    abbrev pub joins : (one other : Held) → Bool
+    joins one other = stretches_join (stretch_in one) (stretch_in other)
+
+    abbrev pub is_joined : Bool
+    is_joined = list_any (λ one. begins one && list_any (joins one) known.held) known.held
+
+-- two have what is wanted together by their second spans, or, where it has two spans itself, by the first
+abbrev pub is_joined_inside : Facts → List OrdinalRange → ℕ → List Wanted → Bool
+is_joined_inside known indexes row [] = false
+is_joined_inside known [] row (one ∷ []) = false
+is_joined_inside known (first ∷ []) row (one ∷ []) = false
+is_joined_inside known (first ∷ second ∷ indexes) row (one ∷ []) =
+    is_joined known (first ∷ second ∷ indexes) row (one ∷ wanted_of known (all_indexes second) ∷ []) true
+is_joined_inside known indexes row (one ∷ two ∷ wanted) =
+    is_joined known indexes row (one ∷ two ∷ wanted) true || is_joined known indexes row (one ∷ two ∷ wanted) false
 
 -- it has all that is wanted; in a version with blocks it does also where one or two together have the first of the
--- wanted spans, with any index behind it
+-- wanted spans, with any index behind it; and in one with boxes where two together have them all
 abbrev pub is_had : Facts → List OrdinalRange → ℕ → List Wanted → Bool
 is_had known indexes row wanted =
     is_covered known indexes row wanted
-    || (has known.rules Blocks
-    && (is_covered known indexes row (take 1 wanted) || is_joined known indexes row (take 1 wanted)))
+    || ((has known.rules Blocks
+    && (is_covered known indexes row (take 1 wanted) || is_joined known indexes row (take 1 wanted) false))
+    || (has known.rules Boxes && is_joined_inside known indexes row wanted))
 
 -- the stretch of all first indexes of a row
 abbrev pub all_of : ℕ → OrdinalRange → Stretch
 all_of row range = record { row = row; spans = all_indexes range ∷ [] }
 
--- what is held has all first indexes of a row whose indexes are of these values, if it has any
+-- what is held has all first indexes of a row whose indexes are of these values, if it has any: one alone has them, or
+-- in a version with boxes two together
 abbrev pub is_spanned : Facts → ℕ → List OrdinalRange → Bool
 is_spanned known row [] = false
 is_spanned known row (range ∷ indexes) =
-    is_covered known (range ∷ indexes) row (wanted_of known (all_indexes range) ∷ [])
+    let wanted = wanted_of known (all_indexes range) ∷ [] in
+    if has known.rules Boxes then is_had known (range ∷ indexes) row wanted
+    else is_covered known (range ∷ indexes) row wanted
 
 -- what is told of the rows of a program: how many variables have one of their own, which come first; which of these
 -- variables are ordinals; and the values of each index on the way to the components of each row, the first one first

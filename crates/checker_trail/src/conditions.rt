@@ -262,7 +262,7 @@ fn excludes(range: Interval, truth: bool) -> bool
 }
 
 /// Whether each operand of a chain has the truth value, if the whole has it.
-fn all_take_both(rest: &[Link], truth: bool) -> bool
+pub fn all_take_both(rest: &[Link], truth: bool) -> bool
     ensures { result ≡ list_all (λ link. takes_both truth link.operation) rest.now }
 {
     rest.iter().all(|link| takes_both(link.operation, truth))
@@ -280,7 +280,7 @@ fn takes_both(operation: Dyadic, truth: bool) -> bool
 }
 
 /// The relation that holds where one had a truth value.
-fn told(relation: Relation, truth: bool) -> Relation
+pub fn told(relation: Relation, truth: bool) -> Relation
     ensures { result ≡ told relation truth }
 {
     if truth { relation } else { opposite(relation) }
@@ -301,7 +301,7 @@ fn opposite(relation: Relation) -> Relation
 }
 
 /// A range without a number, where it is the last.
-fn without_last(number: i64, range: Interval) -> Interval
+pub fn without_last(number: i64, range: Interval) -> Interval
     requires { IsFar number }
     ensures { result ≡ without_last number range }
 {
@@ -313,7 +313,7 @@ fn without_last(number: i64, range: Interval) -> Interval
 }
 
 /// A range without a number, where it is the first.
-fn without_first(number: i64, range: Interval) -> Interval
+pub fn without_first(number: i64, range: Interval) -> Interval
     requires { IsFar number }
     ensures { result ≡ without_first number range }
 {

@@ -11,5 +11,6 @@ mod start;
 mod state;
 mod stores;
 
+pub use conditions::{all_take_both, told, without_first, without_last};
 pub use state::{Mark, State};
 pub use stores::all_of_row;

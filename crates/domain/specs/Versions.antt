@@ -2,7 +2,7 @@
 -- does not say how one is spelled.
 use Rattle.std.specs.Prelude.{ℕ, Bool, nat_le, if◌then◌else◌}
 use Rattle.domain.specs.declared.versions.Extension.{Extension}
-use Rattle.domain.specs.declared.versions.Extension.TheVariants.{Blocks, Boxes, Constants, Growths}
+use Rattle.domain.specs.declared.versions.Extension.TheVariants.{Blocks, Boxes, Calls, Constants, Growths, Sides}
 use Rattle.domain.specs.declared.versions.Version.{Version}
 use Rattle.domain.specs.declared.versions.Version.TheVariants.{One, Three, Two}
 
@@ -18,6 +18,8 @@ since Blocks = 2
 since Growths = 2
 since Constants = 3
 since Boxes = 3
+since Sides = 3
+since Calls = 3
 
 abbrev pub has : Version → Extension → Bool
 has version extension = nat_le (since extension) (number version)

@@ -23,6 +23,10 @@ pub enum Extension {
     Constants,
     /// Boxes: what is known of components of elements, by the indexes on the way to them.
     Boxes,
+    /// Sides: what a condition tells of one side of a relation, by what is known of the other.
+    Sides,
+    /// Calls: an index keeps its bound form behind calls that don't touch the variable of that.
+    Calls,
 }
 
 impl Version {
@@ -53,6 +57,7 @@ impl Extension {
         match self {
             Extension::Blocks | Extension::Growths => 2,
             Extension::Constants | Extension::Boxes => 3,
+            Extension::Sides | Extension::Calls => 3,
         }
     }
 }

@@ -2,6 +2,7 @@ mod Activating
 mod Advancing
 mod Counts
 mod FoundArms
+mod Given
 mod Inputs
 mod Places
 mod Resuming

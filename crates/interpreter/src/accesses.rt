@@ -6,7 +6,7 @@ ghost use Rattle.interpreter.specs.Pending.{RunDoes, accessing, below_top, keepi
 ghost use Rattle.interpreter.specs.Pending.{top_place};
 ghost use Rattle.interpreter.specs.Size.{Adds, Lightens, size_of, size_of_selectors};
 
-use crate::interpreter::Run;
+use crate::interpreter::{Progress, Run};
 use interpreter_state::ordinals::{tested_index, value_in};
 use interpreter_state::rows::row_of;
 use interpreter_state::{Operand, Place, Work, part, put};
@@ -23,7 +23,7 @@ impl<'t> Run<'t, '_> {
         access: &'t Access,
         indexes: &'t [Expr],
         later: Work<'t>,
-    ) -> Result<Option<Ending>, AllocError>
+    ) -> Progress
         ensures size { Adds (2 + size_of later.entry + size_of_selectors access.now.selectors.items indexes.now)
             self.old result self.new }
         ensures does { RunDoes (λ env. accessing env access.now indexes.now later.entry) self.old result self.new }
@@ -37,11 +37,7 @@ impl<'t> Run<'t, '_> {
         self.plan(select, later)
     }
 
-    pub(crate) fn select(
-        &mut self,
-        selectors: &'t [Selector],
-        indexes: &'t [Expr],
-    ) -> Result<Option<Ending>, AllocError>
+    pub(crate) fn select(&mut self, selectors: &'t [Selector], indexes: &'t [Expr]) -> Progress
         ensures fewer { Lightens (Work.Select selectors.entry indexes.entry) self.old result self.new }
         ensures does { RunDoes (λ env. resumed env (Work.Select selectors.entry indexes.entry)) self.old result
             self.new }
@@ -60,12 +56,7 @@ impl<'t> Run<'t, '_> {
     }
 
     // An element, and then the rest of the selectors.
-    fn element(
-        &mut self,
-        fits: RangeTest,
-        rest: &'t [Selector],
-        indexes: &'t [Expr],
-    ) -> Result<Option<Ending>, AllocError>
+    fn element(&mut self, fits: RangeTest, rest: &'t [Selector], indexes: &'t [Expr]) -> Progress
         ensures size { Adds (1 + size_of_selectors rest.now indexes.now) self.old result self.new }
         ensures does { RunDoes (λ env. selecting env (Selector.Element fits 0 ∷ rest.now) indexes.now)
             self.old result self.new }
@@ -90,7 +81,7 @@ impl<'t> Run<'t, '_> {
     }
 
     // Tests the topmost value as an index, and goes on to the element at it.
-    pub(crate) fn index(&mut self, fits: RangeTest) -> Result<Option<Ending>, AllocError>
+    pub(crate) fn index(&mut self, fits: RangeTest) -> Progress
         ensures fewer { Lightens (Work.Index fits) self.old result self.new }
         ensures does { RunDoes (λ env. resumed env (Work.Index fits)) self.old result self.new }
     {
@@ -114,7 +105,7 @@ impl<'t> Run<'t, '_> {
         self.push(Operand::Place(place))
     }
 
-    pub(crate) fn fetch(&mut self, defined: u32) -> Result<Option<Ending>, AllocError>
+    pub(crate) fn fetch(&mut self, defined: u32) -> Progress
         ensures fewer { Lightens (Work.Fetch defined) self.old result self.new }
         ensures does { RunDoes (λ env. resumed env (Work.Fetch defined)) self.old result self.new }
     {
@@ -123,7 +114,7 @@ impl<'t> Run<'t, '_> {
         self.go_on(value.ok_or(defined))
     }
 
-    pub(crate) fn store(&mut self, fits: RangeTest) -> Result<Option<Ending>, AllocError>
+    pub(crate) fn store(&mut self, fits: RangeTest) -> Progress
         ensures fewer { Lightens (Work.Store fits) self.old result self.new }
         ensures does { RunDoes (λ env. resumed env (Work.Store fits)) self.old result self.new }
     {
@@ -139,7 +130,7 @@ impl<'t> Run<'t, '_> {
         value: Value,
         range: OrdinalRange,
         ending: Ending,
-    ) -> Result<Option<Ending>, AllocError>
+    ) -> Progress
         ensures size { Adds 0 self.old result self.new }
         ensures does { RunDoes (λ env. keeping (option_map place_seen place) value range ending) self.old result
             self.new }
@@ -153,11 +144,7 @@ impl<'t> Run<'t, '_> {
         }
     }
 
-    pub(crate) fn whole(
-        &mut self,
-        value: &'t Whole,
-        indexes: &'t [Expr],
-    ) -> Result<Option<Ending>, AllocError>
+    pub(crate) fn whole(&mut self, value: &'t Whole, indexes: &'t [Expr]) -> Progress
         ensures fewer { Lightens (Work.Whole value.entry indexes.entry) self.old result self.new }
         ensures does { RunDoes (λ env. resumed env (Work.Whole value.entry indexes.entry)) self.old result self.new }
     {
@@ -183,11 +170,7 @@ impl<'t> Run<'t, '_> {
         }
     }
 
-    pub(crate) fn fetch_row(
-        &mut self,
-        type_id: TypeId,
-        defined: u32,
-    ) -> Result<Option<Ending>, AllocError>
+    pub(crate) fn fetch_row(&mut self, type_id: TypeId, defined: u32) -> Progress
         ensures fewer { Lightens (Work.FetchRow type_id defined) self.old result self.new }
         ensures does { RunDoes (λ env. resumed env (Work.FetchRow type_id defined)) self.old result self.new }
     {
@@ -201,7 +184,7 @@ impl<'t> Run<'t, '_> {
         }
     }
 
-    pub(crate) fn store_row(&mut self, type_id: TypeId) -> Result<Option<Ending>, AllocError>
+    pub(crate) fn store_row(&mut self, type_id: TypeId) -> Progress
         ensures fewer { Lightens (Work.StoreRow type_id) self.old result self.new }
         ensures does { RunDoes (λ env. resumed env (Work.StoreRow type_id)) self.old result self.new }
     {

@@ -9,7 +9,7 @@ ghost use Rattle.interpreter.specs.Pending.{left_below};
 ghost use Rattle.interpreter.specs.Pending.{operands_of, resumed, taken_from};
 ghost use Rattle.interpreter.specs.Size.{Adds, Lightens, Shrinks, size_of};
 
-use crate::interpreter::Run;
+use crate::interpreter::{Progress, Run};
 use interpreter_state::ordinals::value_in;
 use interpreter_state::{Caller, Operand, Work, put};
 use meaning::{Ending, Ordinal, Value};
@@ -20,11 +20,7 @@ use typed_tree::{Block, Call, Passed, RangeTest};
 // The steps of calls.
 impl<'t> Run<'t, '_> {
     // The actual parameters, and then the activation.
-    pub(crate) fn call(
-        &mut self,
-        call: &'t Call,
-        actuals: &'t [Passed],
-    ) -> Result<Option<Ending>, AllocError>
+    pub(crate) fn call(&mut self, call: &'t Call, actuals: &'t [Passed]) -> Progress
         ensures size { Adds (2 + size_of (Work.Pass actuals.entry)) self.old result self.new }
         ensures does { RunDoes (λ env. calling env call.now actuals.now) self.old result self.new }
     {
@@ -37,7 +33,7 @@ impl<'t> Run<'t, '_> {
         )
     }
 
-    pub(crate) fn pass(&mut self, actuals: &'t [Passed]) -> Result<Option<Ending>, AllocError>
+    pub(crate) fn pass(&mut self, actuals: &'t [Passed]) -> Progress
         ensures fewer { Lightens (Work.Pass actuals.entry) self.old result self.new }
         ensures does { RunDoes (λ env. resumed env (Work.Pass actuals.entry)) self.old result self.new }
     {
@@ -61,7 +57,7 @@ impl<'t> Run<'t, '_> {
     }
 
     // Tests the topmost value.
-    pub(crate) fn test(&mut self, fits: RangeTest) -> Result<Option<Ending>, AllocError>
+    pub(crate) fn test(&mut self, fits: RangeTest) -> Progress
         ensures fewer { Lightens (Work.Test fits) self.old result self.new }
         ensures does { RunDoes (λ env. resumed env (Work.Test fits)) self.old result self.new }
     {
@@ -70,11 +66,7 @@ impl<'t> Run<'t, '_> {
     }
 
     // Begins an activation of a block, and passes so many operands to it.
-    pub(crate) fn activate(
-        &mut self,
-        number: u32,
-        count: usize,
-    ) -> Result<Option<Ending>, AllocError>
+    pub(crate) fn activate(&mut self, number: u32, count: usize) -> Progress
         ensures fewer { Lightens (Work.Activate number count) self.old result self.new }
         ensures does { RunDoes (λ env. resumed env (Work.Activate number count)) self.old result self.new }
     {
@@ -105,12 +97,7 @@ impl<'t> Run<'t, '_> {
     }
 
     // An activation of a block begins, and the one that called it waits.
-    fn begin(
-        &mut self,
-        number: u32,
-        block: &'t Block,
-        arguments: &[Operand],
-    ) -> Result<Option<Ending>, AllocError>
+    fn begin(&mut self, number: u32, block: &'t Block, arguments: &[Operand]) -> Progress
         requires { 0 < self.old.activation.depth }
         ensures size { Adds 0 self.old result self.new }
         ensures does { RunDoes (beginning self.old.tree.now self.old.activation.depth number block.now
@@ -180,7 +167,7 @@ impl<'t> Run<'t, '_> {
 
     // The activation ends, and the one that called it goes on with its result; or the statement of a with ends, or a
     // turn of a for, and what stands behind it follows.
-    pub(crate) fn leave(&mut self) -> Result<Option<Ending>, AllocError>
+    pub(crate) fn leave(&mut self) -> Progress
         ensures fewer { Shrinks self.old result self.new }
         ensures does { RunLeaves self.old result self.new }
     {
@@ -228,7 +215,7 @@ impl<'t> Run<'t, '_> {
     }
 
     // Behind a procedure: it has no result.
-    pub(crate) fn discard(&mut self) -> Result<Option<Ending>, AllocError>
+    pub(crate) fn discard(&mut self) -> Progress
         ensures fewer { Lightens Work.Discard self.old result self.new }
         ensures does { RunDoes (λ env. resumed env Work.Discard) self.old result self.new }
     {

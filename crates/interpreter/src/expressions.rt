@@ -2,18 +2,17 @@ ghost use Rattle.std.specs.Prelude.{◌+◌, ◌∷◌};
 ghost use Rattle.interpreter.specs.Pending.{RunDoes, constructing, gathering, resumed};
 ghost use Rattle.interpreter.specs.Size.{Adds, Lightens, size_of_gather};
 
-use crate::interpreter::Run;
+use crate::interpreter::{Progress, Run};
 use interpreter_state::ordinals::operated_number;
 use interpreter_state::rows::compared_number;
 use interpreter_state::sets::{operated_value, with_one, with_range};
 use interpreter_state::{Operand, Work, put};
 use meaning::{Ending, Ordinal, Value};
-use std::alloc::AllocError;
 use typed_tree::{Designator, Dyadic, Expr, Link, Monadic, Relation, Whole};
 
 // The steps of expressions.
 impl<'t> Run<'t, '_> {
-    pub(crate) fn value(&mut self, expression: &'t Expr) -> Result<Option<Ending>, AllocError>
+    pub(crate) fn value(&mut self, expression: &'t Expr) -> Progress
         ensures fewer { Lightens (Work.Value expression.entry) self.old result self.new }
         ensures does { RunDoes (λ env. resumed env (Work.Value expression.entry)) self.old result self.new }
     {
@@ -60,7 +59,7 @@ impl<'t> Run<'t, '_> {
         }
     }
 
-    pub(crate) fn monadic(&mut self, operation: Monadic) -> Result<Option<Ending>, AllocError>
+    pub(crate) fn monadic(&mut self, operation: Monadic) -> Progress
         ensures fewer { Lightens (Work.Monadic operation) self.old result self.new }
         ensures does { RunDoes (λ env. resumed env (Work.Monadic operation)) self.old result self.new }
     {
@@ -68,7 +67,7 @@ impl<'t> Run<'t, '_> {
         self.go_on_with(operated_number(operation, operand))
     }
 
-    pub(crate) fn links(&mut self, links: &'t [Link]) -> Result<Option<Ending>, AllocError>
+    pub(crate) fn links(&mut self, links: &'t [Link]) -> Progress
         ensures fewer { Lightens (Work.Links links.entry) self.old result self.new }
         ensures does { RunDoes (λ env. resumed env (Work.Links links.entry)) self.old result self.new }
     {
@@ -81,7 +80,7 @@ impl<'t> Run<'t, '_> {
         }
     }
 
-    pub(crate) fn combine(&mut self, operation: Dyadic) -> Result<Option<Ending>, AllocError>
+    pub(crate) fn combine(&mut self, operation: Dyadic) -> Progress
         ensures fewer { Lightens (Work.Combine operation) self.old result self.new }
         ensures does { RunDoes (λ env. resumed env (Work.Combine operation)) self.old result self.new }
     {
@@ -91,11 +90,7 @@ impl<'t> Run<'t, '_> {
     }
 
     // A set constructor, whose members are added to the empty set.
-    fn constructor(
-        &mut self,
-        designators: &'t [Designator],
-        members: &'t [Expr],
-    ) -> Result<Option<Ending>, AllocError>
+    fn constructor(&mut self, designators: &'t [Designator], members: &'t [Expr]) -> Progress
         ensures size { Adds (1 + size_of_gather designators.now members.now) self.old result self.new }
         ensures does { RunDoes (λ env. constructing env designators.now members.now) self.old result self.new }
     {
@@ -106,11 +101,7 @@ impl<'t> Run<'t, '_> {
         })
     }
 
-    pub(crate) fn gather(
-        &mut self,
-        designators: &'t [Designator],
-        members: &'t [Expr],
-    ) -> Result<Option<Ending>, AllocError>
+    pub(crate) fn gather(&mut self, designators: &'t [Designator], members: &'t [Expr]) -> Progress
         ensures fewer { Lightens (Work.Gather designators.entry members.entry) self.old result self.new }
         ensures does { RunDoes (λ env. resumed env (Work.Gather designators.entry members.entry))
             self.old result self.new }
@@ -123,12 +114,7 @@ impl<'t> Run<'t, '_> {
     }
 
     // A single member, and then the rest of the designators.
-    fn single(
-        &mut self,
-        site: u32,
-        rest: &'t [Designator],
-        members: &'t [Expr],
-    ) -> Result<Option<Ending>, AllocError>
+    fn single(&mut self, site: u32, rest: &'t [Designator], members: &'t [Expr]) -> Progress
         ensures size { Adds (2 + size_of_gather rest.now members.now) self.old result self.new }
         ensures does { RunDoes (λ env. gathering env (Designator.Single site ∷ rest.now) members.now)
             self.old result self.new }
@@ -149,12 +135,7 @@ impl<'t> Run<'t, '_> {
     }
 
     // Several members, and then the rest of the designators.
-    fn range(
-        &mut self,
-        site: u32,
-        rest: &'t [Designator],
-        members: &'t [Expr],
-    ) -> Result<Option<Ending>, AllocError>
+    fn range(&mut self, site: u32, rest: &'t [Designator], members: &'t [Expr]) -> Progress
         ensures size { Adds (2 + size_of_gather rest.now members.now) self.old result self.new }
         ensures does { RunDoes (λ env. gathering env (Designator.Range site ∷ rest.now) members.now)
             self.old result self.new }
@@ -178,7 +159,7 @@ impl<'t> Run<'t, '_> {
     }
 
     // Adds the topmost value to the set below it.
-    pub(crate) fn add_member(&mut self, site: u32) -> Result<Option<Ending>, AllocError>
+    pub(crate) fn add_member(&mut self, site: u32) -> Progress
         ensures fewer { Lightens (Work.AddMember site) self.old result self.new }
         ensures does { RunDoes (λ env. resumed env (Work.AddMember site)) self.old result self.new }
     {
@@ -188,7 +169,7 @@ impl<'t> Run<'t, '_> {
     }
 
     // Adds all from the second topmost value to the topmost one to the set below them.
-    pub(crate) fn add_range(&mut self, site: u32) -> Result<Option<Ending>, AllocError>
+    pub(crate) fn add_range(&mut self, site: u32) -> Progress
         ensures fewer { Lightens (Work.AddRange site) self.old result self.new }
         ensures does { RunDoes (λ env. resumed env (Work.AddRange site)) self.old result self.new }
     {
@@ -205,7 +186,7 @@ impl<'t> Run<'t, '_> {
         relation: Relation,
         right: &'t Whole,
         indexes: &'t [Expr],
-    ) -> Result<Option<Ending>, AllocError>
+    ) -> Progress
         ensures fewer { Lightens (Work.RightSide number relation right.entry indexes.entry) self.old result self.new }
         ensures does { RunDoes (λ env. resumed env (Work.RightSide number relation right.entry indexes.entry))
             self.old result self.new }
@@ -219,7 +200,7 @@ impl<'t> Run<'t, '_> {
         )
     }
 
-    pub(crate) fn compare(&mut self, relation: Relation) -> Result<Option<Ending>, AllocError>
+    pub(crate) fn compare(&mut self, relation: Relation) -> Progress
         ensures fewer { Lightens (Work.Compare relation) self.old result self.new }
         ensures does { RunDoes (λ env. resumed env (Work.Compare relation)) self.old result self.new }
     {

@@ -64,8 +64,11 @@ pub(crate) struct Run<'t, 'i> {
     pub(crate) pending: Vec<Work<'t>>,
 }
 
+// What a step answers: nothing where the run goes on, or how it ends. An error means that memory ran out.
+pub(crate) type Progress = Result<Option<Ending>, AllocError>;
+
 impl<'t> Run<'t, '_> {
-    // RunDoes the statement of the program's block, in the first activation.
+    // Does the statement of the program's block, in the first activation.
     fn execute(&mut self) -> Result<Ending, AllocError>
         ensures { Executes self.old result self.new }
     {
@@ -84,7 +87,7 @@ impl<'t> Run<'t, '_> {
         }
     }
 
-    // RunDoes the work that is left.
+    // Does the work that is left.
     fn finish(&mut self) -> Result<Ending, AllocError>
         ensures { Finishes self.old result self.new }
     {
@@ -95,8 +98,8 @@ impl<'t> Run<'t, '_> {
         }
     }
 
-    // RunDoes the work that is left until a turn is used or the run ends.
-    fn work_in_turn(&mut self) -> Result<Option<Ending>, AllocError>
+    // Does the work that is left until a turn is used or the run ends.
+    fn work_in_turn(&mut self) -> Progress
         ensures fewer { result ≡ Ok None → self.new.turns < self.old.turns }
         ensures does { Advances self.old result self.new }
     {
@@ -111,8 +114,8 @@ impl<'t> Run<'t, '_> {
         }
     }
 
-    // RunDoes the next piece of work; where none is left the activation ends, and with the program's own the run.
-    fn advance(&mut self) -> Result<Option<Ending>, AllocError>
+    // Does the next piece of work; where none is left the activation ends, and with the program's own the run.
+    fn advance(&mut self) -> Progress
         ensures fewer { Shrinks self.old result self.new }
         ensures does { Advances self.old result self.new }
     {
@@ -125,7 +128,7 @@ impl<'t> Run<'t, '_> {
         }
     }
 
-    fn step(&mut self, work: Work<'t>) -> Result<Option<Ending>, AllocError>
+    fn step(&mut self, work: Work<'t>) -> Progress
         ensures fewer { Lightens work.entry self.old result self.new }
         ensures does { RunDoes (λ env. resumed env work.entry) self.old result self.new }
     {
@@ -188,7 +191,7 @@ impl<'t> Run<'t, '_> {
     }
 
     // What is done next.
-    pub(crate) fn do_next(&mut self, next: Work<'t>) -> Result<Option<Ending>, AllocError>
+    pub(crate) fn do_next(&mut self, next: Work<'t>) -> Progress
         ensures size { Adds (1 + size_of next.entry) self.old result self.new }
         ensures does { RunDoes (λ env. resumed env next.entry) self.old result self.new }
     {
@@ -197,11 +200,7 @@ impl<'t> Run<'t, '_> {
     }
 
     // What is done next, and what is done after it.
-    pub(crate) fn plan(
-        &mut self,
-        next: Work<'t>,
-        later: Work<'t>,
-    ) -> Result<Option<Ending>, AllocError>
+    pub(crate) fn plan(&mut self, next: Work<'t>, later: Work<'t>) -> Progress
         ensures size { Adds (2 + size_of next.entry + size_of later.entry) self.old result self.new }
         ensures does { RunDoes (λ env rest. resumed env next.entry (resumed env later.entry rest))
             self.old result self.new }
@@ -217,7 +216,7 @@ impl<'t> Run<'t, '_> {
         first: &'t Expr,
         second: &'t Expr,
         later: Work<'t>,
-    ) -> Result<Option<Ending>, AllocError>
+    ) -> Progress
         ensures size { Adds (3 + size_of_expression first.now + size_of_expression second.now + size_of later.entry)
             self.old result self.new }
         ensures does { RunDoes (λ env. evaluating env first.now second.now later.entry) self.old result self.new }
@@ -232,7 +231,7 @@ impl<'t> Run<'t, '_> {
         next: Work<'t>,
         condition: &'t Expr,
         later: Work<'t>,
-    ) -> Result<Option<Ending>, AllocError>
+    ) -> Progress
         ensures size { Adds 0 self.old result self.new }
         ensures does { RunDoes (λ env. turning_tested env next.entry condition.now later.entry)
             self.old result self.new }

@@ -7,7 +7,7 @@ ghost use Rattle.interpreter.specs.Pending.{top_in_hand, top_of};
 ghost use Rattle.interpreter.specs.Pending.{top_place, top_row};
 ghost use Rattle.interpreter.specs.Size.{Adds};
 
-use crate::interpreter::Run;
+use crate::interpreter::{Progress, Run};
 use interpreter_state::ordinals::number_of;
 use interpreter_state::sets::members_of;
 use interpreter_state::{Operand, Place};
@@ -17,7 +17,7 @@ use std::alloc::AllocError;
 // The stack of operands. Each piece of work that takes one follows work that left it.
 impl Run<'_, '_> {
     // Goes on with a value, or stops at the site of its error.
-    pub(crate) fn go_on(&mut self, value: Result<Value, u32>) -> Result<Option<Ending>, AllocError>
+    pub(crate) fn go_on(&mut self, value: Result<Value, u32>) -> Progress
         ensures size { Adds 0 self.old result self.new }
         ensures does { RunDoes (λ env. giving (answered value)) self.old result self.new }
     {
@@ -31,37 +31,19 @@ impl Run<'_, '_> {
     }
 
     // Goes on with a number, or stops at the site of its error.
-    pub(crate) fn go_on_with(
-        &mut self,
-        number: Result<Ordinal, u32>,
-    ) -> Result<Option<Ending>, AllocError>
+    pub(crate) fn go_on_with(&mut self, number: Result<Ordinal, u32>) -> Progress
         ensures size { Adds 0 self.old result self.new }
         ensures does { RunDoes (λ env. giving_number (answered number)) self.old result self.new }
     {
-        match number {
-            Ok(number) => {
-                self.push(Operand::Value(Value::Number(number)))?;
-                Ok(None)
-            }
-            Err(site) => Ok(Some(Ending::Error(site))),
-        }
+        self.go_on(number.map(Value::Number))
     }
 
     // Goes on with a set, or stops at the site of its error.
-    pub(crate) fn go_on_with_set(
-        &mut self,
-        set: Result<u128, u32>,
-    ) -> Result<Option<Ending>, AllocError>
+    pub(crate) fn go_on_with_set(&mut self, set: Result<u128, u32>) -> Progress
         ensures size { Adds 0 self.old result self.new }
         ensures does { RunDoes (λ env. giving_set (answered set)) self.old result self.new }
     {
-        match set {
-            Ok(set) => {
-                self.push(Operand::Value(Value::Members(set)))?;
-                Ok(None)
-            }
-            Err(site) => Ok(Some(Ending::Error(site))),
-        }
+        self.go_on(set.map(Value::Members))
     }
 
     pub(crate) fn push(&mut self, operand: Operand) -> Result<(), AllocError>
@@ -78,10 +60,7 @@ impl Run<'_, '_> {
         ensures top { result ≡ top_of (operands_of self.old) }
         ensures below { operands_of self.new ≡ below_top (operands_of self.old) }
     {
-        match self.operands.pop() {
-            Some(operand) => operand.value(),
-            None => Value::Number(Ordinal::new(0)),
-        }
+        self.popped_operand().value()
     }
 
     // The number of the topmost value.
@@ -108,7 +87,7 @@ impl Run<'_, '_> {
         ensures top { option_map place_seen result ≡ top_place (operands_of self.old) }
         ensures below { operands_of self.new ≡ below_top (operands_of self.old) }
     {
-        self.operands.pop()?.place()
+        self.popped_operand().place()
     }
 
     // The topmost row.
@@ -117,10 +96,7 @@ impl Run<'_, '_> {
         ensures top { result.items ≡ top_row (operands_of self.old) }
         ensures below { operands_of self.new ≡ below_top (operands_of self.old) }
     {
-        match self.operands.pop() {
-            Some(operand) => operand.row(self.alloc),
-            None => Vec::new(self.alloc),
-        }
+        self.popped_operand().row(self.alloc)
     }
 
     // The topmost operand.
@@ -129,9 +105,8 @@ impl Run<'_, '_> {
         ensures top { operand_seen result ≡ top_in_hand (operands_of self.old) }
         ensures below { operands_of self.new ≡ below_top (operands_of self.old) }
     {
-        match self.operands.pop() {
-            Some(operand) => operand,
-            None => Operand::Value(Value::Number(Ordinal::new(0))),
-        }
+        self.operands
+            .pop()
+            .unwrap_or(Operand::Value(Value::Number(Ordinal::new(0))))
     }
 }

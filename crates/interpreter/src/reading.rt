@@ -1,20 +1,15 @@
 ghost use Rattle.interpreter.specs.Pending.{RunDoes, asking, line_passing, resumed};
 ghost use Rattle.interpreter.specs.Size.{Adds, Lightens};
 
-use crate::interpreter::Run;
+use crate::interpreter::{Progress, Run};
 use interpreter_state::{Work, put};
 use meaning::{Ending, Ordinal, Value};
-use std::alloc::AllocError;
 use text_input::InputFault;
 use typed_tree::{InputTest, ReadVariable};
 
 // The steps that read or ask the input.
 impl<'t> Run<'t, '_> {
-    pub(crate) fn variables(
-        &mut self,
-        variables: &'t [ReadVariable],
-        line: Option<u32>,
-    ) -> Result<Option<Ending>, AllocError>
+    pub(crate) fn variables(&mut self, variables: &'t [ReadVariable], line: Option<u32>) -> Progress
         ensures fewer { Lightens (Work.Variables variables.entry line) self.old result self.new }
         ensures does { RunDoes (λ env. resumed env (Work.Variables variables.entry line)) self.old result self.new }
     {
@@ -32,7 +27,7 @@ impl<'t> Run<'t, '_> {
     }
 
     // Reads a variable whose place is topmost; what is read has to be a value of its type.
-    pub(crate) fn read(&mut self, variable: &'t ReadVariable) -> Result<Option<Ending>, AllocError>
+    pub(crate) fn read(&mut self, variable: &'t ReadVariable) -> Progress
         ensures fewer { Lightens (Work.Read variable.entry) self.old result self.new }
         ensures does { RunDoes (λ env. resumed env (Work.Read variable.entry)) self.old result self.new }
     {
@@ -50,7 +45,7 @@ impl<'t> Run<'t, '_> {
     }
 
     // Passes the next line end behind a readln.
-    fn line(&mut self, line: Option<u32>) -> Result<Option<Ending>, AllocError>
+    fn line(&mut self, line: Option<u32>) -> Progress
         ensures size { Adds 0 self.old result self.new }
         ensures does { RunDoes (λ env. line_passing line) self.old result self.new }
     {
@@ -66,7 +61,7 @@ impl<'t> Run<'t, '_> {
         }
     }
 
-    pub(crate) fn asked(&mut self, asks: InputTest) -> Result<Option<Ending>, AllocError>
+    pub(crate) fn asked(&mut self, asks: InputTest) -> Progress
         ensures size { Adds 0 self.old result self.new }
         ensures does { RunDoes (λ env. asking asks) self.old result self.new }
     {

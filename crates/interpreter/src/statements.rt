@@ -6,7 +6,7 @@ ghost use Rattle.interpreter.specs.Pending.{writing_one, writing_row};
 ghost use Rattle.interpreter.specs.Size.{Adds, Lightens, size_of_assignment, size_of_copying, size_of_expression};
 ghost use Rattle.interpreter.specs.Size.{size_of_parameter, size_of_procedure, size_of_whole, size_of_width};
 
-use crate::interpreter::Run;
+use crate::interpreter::{Progress, Run};
 use interpreter_state::arms::arm_at;
 use interpreter_state::ordinals::{
     positive_width, tested_bounds, truth_of, value_toward, width_by_default,
@@ -15,7 +15,6 @@ use interpreter_state::rows::length_of;
 use interpreter_state::text::{write_ordinal, write_row, write_row_in};
 use interpreter_state::{Caller, Rounds, Work, put};
 use meaning::{Ending, Ordinal, Value};
-use std::alloc::AllocError;
 use std::mem;
 use typed_tree::{
     Assignment, CaseHead, Copying, Expr, ForHead, LoopHead, ProcedureCall, Representation, Stmt,
@@ -24,10 +23,7 @@ use typed_tree::{
 
 // The steps of statements.
 impl<'t> Run<'t, '_> {
-    pub(crate) fn statements(
-        &mut self,
-        statements: &'t [Stmt],
-    ) -> Result<Option<Ending>, AllocError>
+    pub(crate) fn statements(&mut self, statements: &'t [Stmt]) -> Progress
         ensures fewer { Lightens (Work.Statements statements.entry) self.old result self.new }
         ensures does { RunDoes (λ env. resumed env (Work.Statements statements.entry)) self.old result self.new }
     {
@@ -37,7 +33,7 @@ impl<'t> Run<'t, '_> {
         }
     }
 
-    pub(crate) fn statement(&mut self, statement: &'t Stmt) -> Result<Option<Ending>, AllocError>
+    pub(crate) fn statement(&mut self, statement: &'t Stmt) -> Progress
         ensures fewer { Lightens (Work.Statement statement.entry) self.old result self.new }
         ensures does { RunDoes (λ env. resumed env (Work.Statement statement.entry)) self.old result self.new }
     {
@@ -80,7 +76,7 @@ impl<'t> Run<'t, '_> {
     }
 
     // The place of the target and the value, which is stored there.
-    fn assignment(&mut self, assignment: &'t Assignment) -> Result<Option<Ending>, AllocError>
+    fn assignment(&mut self, assignment: &'t Assignment) -> Progress
         ensures size { Adds (size_of_assignment assignment.now) self.old result self.new }
         ensures does { RunDoes (λ env. assigning env assignment.now) self.old result self.new }
     {
@@ -93,7 +89,7 @@ impl<'t> Run<'t, '_> {
     }
 
     // The place of the target and the row of the value, which is stored there.
-    fn copying(&mut self, copying: &'t Copying) -> Result<Option<Ending>, AllocError>
+    fn copying(&mut self, copying: &'t Copying) -> Progress
         ensures size { Adds (size_of_copying copying.now) self.old result self.new }
         ensures does { RunDoes (λ env. assigning_row env copying.now) self.old result self.new }
     {
@@ -109,7 +105,7 @@ impl<'t> Run<'t, '_> {
     }
 
     // A call whose value is dropped.
-    fn procedure(&mut self, procedure: &'t ProcedureCall) -> Result<Option<Ending>, AllocError>
+    fn procedure(&mut self, procedure: &'t ProcedureCall) -> Progress
         ensures size { Adds (size_of_procedure procedure.now) self.old result self.new }
         ensures does { RunDoes (λ env. performing env procedure.now) self.old result self.new }
     {
@@ -121,7 +117,7 @@ impl<'t> Run<'t, '_> {
         &mut self,
         consequence: &'t Box<Stmt>,
         alternative: &'t Option<Box<Stmt>>,
-    ) -> Result<Option<Ending>, AllocError>
+    ) -> Progress
         ensures fewer { Lightens (Work.Choose consequence.entry alternative.entry) self.old result self.new }
         ensures does { RunDoes (λ env. resumed env (Work.Choose consequence.entry alternative.entry))
             self.old result self.new }
@@ -136,22 +132,14 @@ impl<'t> Run<'t, '_> {
     }
 
     // The rounds of a while.
-    fn while_round(
-        &mut self,
-        head: &'t LoopHead,
-        body: &'t Stmt,
-    ) -> Result<Option<Ending>, AllocError>
+    fn while_round(&mut self, head: &'t LoopHead, body: &'t Stmt) -> Progress
         ensures size { Adds (2 + size_of_expression head.now.condition) self.old result self.new }
         ensures does { RunDoes (λ env. whiling env head.now body.now) self.old result self.new }
     {
         self.plan(Work::Value(&head.condition), Work::WhileTurn { head, body })
     }
 
-    pub(crate) fn while_turn(
-        &mut self,
-        head: &'t LoopHead,
-        body: &'t Stmt,
-    ) -> Result<Option<Ending>, AllocError>
+    pub(crate) fn while_turn(&mut self, head: &'t LoopHead, body: &'t Stmt) -> Progress
         ensures fewer { Lightens (Work.WhileTurn head.entry body.entry) self.old result self.new }
         ensures does { RunDoes (λ env. resumed env (Work.WhileTurn head.entry body.entry)) self.old result self.new }
     {
@@ -167,11 +155,7 @@ impl<'t> Run<'t, '_> {
     }
 
     // The rounds of a repeat.
-    fn repeat_round(
-        &mut self,
-        head: &'t LoopHead,
-        statements: &'t Vec<Stmt>,
-    ) -> Result<Option<Ending>, AllocError>
+    fn repeat_round(&mut self, head: &'t LoopHead, statements: &'t Vec<Stmt>) -> Progress
         ensures size { Adds 0 self.old result self.new }
         ensures does { RunDoes (λ env. repeating env head.now statements.now.items) self.old result self.new }
     {
@@ -182,11 +166,7 @@ impl<'t> Run<'t, '_> {
         )
     }
 
-    pub(crate) fn unless(
-        &mut self,
-        head: &'t LoopHead,
-        statements: &'t Vec<Stmt>,
-    ) -> Result<Option<Ending>, AllocError>
+    pub(crate) fn unless(&mut self, head: &'t LoopHead, statements: &'t Vec<Stmt>) -> Progress
         ensures fewer { Lightens (Work.Unless head.entry statements.entry) self.old result self.new }
         ensures does { RunDoes (λ env. resumed env (Work.Unless head.entry statements.entry)) self.old result self.new }
     {
@@ -197,12 +177,7 @@ impl<'t> Run<'t, '_> {
         }
     }
 
-    pub(crate) fn rounds(
-        &mut self,
-        head: &'t ForHead,
-        rounds: Rounds,
-        body: &'t Stmt,
-    ) -> Result<Option<Ending>, AllocError>
+    pub(crate) fn rounds(&mut self, head: &'t ForHead, rounds: Rounds, body: &'t Stmt) -> Progress
         ensures fewer { Lightens (Work.For head.entry rounds body.entry) self.old result self.new }
         ensures does { RunDoes (λ env. resumed env (Work.For head.entry rounds body.entry)) self.old result self.new }
     {
@@ -215,7 +190,7 @@ impl<'t> Run<'t, '_> {
     }
 
     // The rounds of a for between its bounds.
-    fn bounds(&mut self, head: &'t ForHead, body: &'t Stmt) -> Result<Option<Ending>, AllocError>
+    fn bounds(&mut self, head: &'t ForHead, body: &'t Stmt) -> Progress
         ensures fewer { Lightens (Work.For head.entry Between body.entry) self.old result self.new }
         ensures does { RunDoes (λ env. resumed env (Work.For head.entry Between body.entry)) self.old result self.new }
     {
@@ -236,7 +211,7 @@ impl<'t> Run<'t, '_> {
         value: i32,
         last: i32,
         body: &'t Stmt,
-    ) -> Result<Option<Ending>, AllocError>
+    ) -> Progress
         ensures size { Adds 0 self.old result self.new }
         ensures does { RunDoes (λ env. counting_on env head.now first value last body.now) self.old result self.new }
     {
@@ -253,7 +228,7 @@ impl<'t> Run<'t, '_> {
     }
 
     // A turn of a for, while what stands behind it waits; with none left the run ends.
-    fn for_turn(&mut self, body: &'t Stmt, later: Work<'t>) -> Result<Option<Ending>, AllocError>
+    fn for_turn(&mut self, body: &'t Stmt, later: Work<'t>) -> Progress
         ensures size { Adds 0 self.old result self.new }
         ensures does { (finished : ℕ) → RunDoes (λ env. turning_inside env finished body.now later.entry)
             self.old result self.new }
@@ -276,7 +251,7 @@ impl<'t> Run<'t, '_> {
         value: i32,
         last: i32,
         body: &'t Stmt,
-    ) -> Result<Option<Ending>, AllocError>
+    ) -> Progress
         ensures fewer { Lightens (Work.For head.entry (Behind first value last) body.entry) self.old result self.new }
         ensures does { RunDoes (λ env. resumed env (Work.For head.entry (Behind first value last) body.entry))
             self.old result self.new }
@@ -288,7 +263,7 @@ impl<'t> Run<'t, '_> {
     }
 
     // Behind a for its control variable is undefined.
-    fn forget(&mut self, control: u32) -> Result<Option<Ending>, AllocError>
+    fn forget(&mut self, control: u32) -> Progress
         ensures size { Adds 0 self.old result self.new }
         ensures does { RunDoes (λ env. forgetting (env.visible.variables control)) self.old result self.new }
     {
@@ -297,11 +272,7 @@ impl<'t> Run<'t, '_> {
         Ok(None)
     }
 
-    pub(crate) fn case(
-        &mut self,
-        head: &'t CaseHead,
-        arms: &'t Vec<Stmt>,
-    ) -> Result<Option<Ending>, AllocError>
+    pub(crate) fn case(&mut self, head: &'t CaseHead, arms: &'t Vec<Stmt>) -> Progress
         ensures fewer { Lightens (Work.Case head.entry arms.entry) self.old result self.new }
         ensures does { RunDoes (λ env. resumed env (Work.Case head.entry arms.entry)) self.old result self.new }
     {
@@ -313,11 +284,7 @@ impl<'t> Run<'t, '_> {
     }
 
     // The records of a with, one after another, and then its statement.
-    pub(crate) fn with(
-        &mut self,
-        records: &'t [WithRecord],
-        body: &'t Box<Stmt>,
-    ) -> Result<Option<Ending>, AllocError>
+    pub(crate) fn with(&mut self, records: &'t [WithRecord], body: &'t Box<Stmt>) -> Progress
         ensures fewer { Lightens (Work.With records.entry body.entry) self.old result self.new }
         ensures does { RunDoes (λ env. resumed env (Work.With records.entry body.entry)) self.old result self.new }
     {
@@ -335,11 +302,7 @@ impl<'t> Run<'t, '_> {
     }
 
     // The record whose place is topmost, and in it further ones and the statement; what is pending waits for these.
-    pub(crate) fn within(
-        &mut self,
-        records: &'t [WithRecord],
-        body: &'t Box<Stmt>,
-    ) -> Result<Option<Ending>, AllocError>
+    pub(crate) fn within(&mut self, records: &'t [WithRecord], body: &'t Box<Stmt>) -> Progress
         ensures fewer { Lightens (Work.Within records.entry body.entry) self.old result self.new }
         ensures does { RunDoes (λ env. resumed env (Work.Within records.entry body.entry)) self.old result self.new }
     {
@@ -354,7 +317,7 @@ impl<'t> Run<'t, '_> {
         &mut self,
         parameters: &'t [WriteParameter],
         ends_line: bool,
-    ) -> Result<Option<Ending>, AllocError>
+    ) -> Progress
         ensures fewer { Lightens (Work.Parameters parameters.entry ends_line) self.old result self.new }
         ensures does { RunDoes (λ env. resumed env (Work.Parameters parameters.entry ends_line)) self.old result
             self.new }
@@ -375,7 +338,7 @@ impl<'t> Run<'t, '_> {
     }
 
     // A value that is written.
-    fn parameter(&mut self, parameter: &'t WriteParameter) -> Result<Option<Ending>, AllocError>
+    fn parameter(&mut self, parameter: &'t WriteParameter) -> Progress
         ensures size { Adds (size_of_parameter parameter.now) self.old result self.new }
         ensures does { RunDoes (λ env. writing_one env parameter.now) self.old result self.new }
     {
@@ -394,7 +357,7 @@ impl<'t> Run<'t, '_> {
         value: &'t Expr,
         representation: Representation,
         width: &'t Option<Width>,
-    ) -> Result<Option<Ending>, AllocError>
+    ) -> Progress
         ensures size { Adds (3 + size_of_expression value.now + size_of_width width.now) self.old result self.new }
         ensures does { RunDoes (λ env. writing env value.now representation width.now) self.old result self.new }
     {
@@ -414,7 +377,7 @@ impl<'t> Run<'t, '_> {
         value: &'t Whole,
         indexes: &'t [Expr],
         width: &'t Option<Width>,
-    ) -> Result<Option<Ending>, AllocError>
+    ) -> Progress
         ensures size { Adds (2 + size_of_whole value.now indexes.now + size_of_width width.now)
             self.old result self.new }
         ensures does { RunDoes (λ env. writing_row env value.now indexes.now width.now) self.old result self.new }
@@ -438,7 +401,7 @@ impl<'t> Run<'t, '_> {
         &mut self,
         width: &'t Option<Width>,
         representation: Representation,
-    ) -> Result<Option<Ending>, AllocError>
+    ) -> Progress
         ensures fewer { Lightens (Work.Width width.entry representation) self.old result self.new }
         ensures does { RunDoes (λ env. resumed env (Work.Width width.entry representation)) self.old result self.new }
     {
@@ -451,7 +414,7 @@ impl<'t> Run<'t, '_> {
         }
     }
 
-    pub(crate) fn width_test(&mut self, site: u32) -> Result<Option<Ending>, AllocError>
+    pub(crate) fn width_test(&mut self, site: u32) -> Progress
         ensures fewer { Lightens (Work.WidthTest site) self.old result self.new }
         ensures does { RunDoes (λ env. resumed env (Work.WidthTest site)) self.old result self.new }
     {
@@ -459,10 +422,7 @@ impl<'t> Run<'t, '_> {
         self.go_on_with(positive_width(width, site))
     }
 
-    pub(crate) fn write(
-        &mut self,
-        representation: Representation,
-    ) -> Result<Option<Ending>, AllocError>
+    pub(crate) fn write(&mut self, representation: Representation) -> Progress
         ensures fewer { Lightens (Work.Write representation) self.old result self.new }
         ensures does { RunDoes (λ env. resumed env (Work.Write representation)) self.old result self.new }
     {
@@ -472,7 +432,7 @@ impl<'t> Run<'t, '_> {
         Ok(None)
     }
 
-    pub(crate) fn write_row(&mut self) -> Result<Option<Ending>, AllocError>
+    pub(crate) fn write_row(&mut self) -> Progress
         ensures fewer { Lightens Work.WriteRow self.old result self.new }
         ensures does { RunDoes (λ env. resumed env Work.WriteRow) self.old result self.new }
     {
@@ -482,7 +442,7 @@ impl<'t> Run<'t, '_> {
         Ok(None)
     }
 
-    pub(crate) fn write_row_in(&mut self, places: usize) -> Result<Option<Ending>, AllocError>
+    pub(crate) fn write_row_in(&mut self, places: usize) -> Progress
         ensures fewer { Lightens (Work.WriteRowIn places) self.old result self.new }
         ensures does { RunDoes (λ env. resumed env (Work.WriteRowIn places)) self.old result self.new }
     {
@@ -491,7 +451,7 @@ impl<'t> Run<'t, '_> {
         Ok(None)
     }
 
-    fn line_end(&mut self, ends_line: bool) -> Result<Option<Ending>, AllocError>
+    fn line_end(&mut self, ends_line: bool) -> Progress
         ensures size { Adds 0 self.old result self.new }
         ensures does { RunDoes (λ env. line_ending ends_line) self.old result self.new }
     {

@@ -6,7 +6,7 @@ ghost use Rattle.interpreter_state.specs.Views.{place_of, place_seen, start_of, 
 ghost use Rattle.interpreter.specs.Pending.{StoreAgrees, held_all, items_of, kept_all};
 
 use crate::interpreter::Run;
-use interpreter_state::{Place, component as component_of};
+use interpreter_state::{Place, Placed, component as component_of};
 use meaning::Value;
 use std::alloc::AllocError;
 use typed_tree::Access;
@@ -15,7 +15,7 @@ use types::TypeId;
 // The variables and their components.
 impl Run<'_, '_> {
     // Where a variable lies, if it is visible.
-    pub(crate) fn place(&self, root: u32) -> Result<Option<Place>, AllocError>
+    pub(crate) fn place(&self, root: u32) -> Placed
         ensures { IfOk result (λ place. option_map place_seen place
             ≡ place_of (visible_in self.now.activation) root (slice_get self.now.tree.now.variables.items root)) }
     {
@@ -24,7 +24,7 @@ impl Run<'_, '_> {
     }
 
     // The place at which an access begins, if there is one.
-    pub(crate) fn start(&self, access: &Access) -> Result<Option<Place>, AllocError>
+    pub(crate) fn start(&self, access: &Access) -> Placed
         ensures { IfOk result (λ place. option_map place_seen place
             ≡ start_of self.now.activation self.now.tree.now.variables.items (origin_of access.now)) }
     {

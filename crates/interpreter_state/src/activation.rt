@@ -7,7 +7,7 @@ ghost use Rattle.meaning.specs.Meaning.{place_at};
 ghost use Rattle.meaning.specs.Store.{Place as MeantPlace};
 ghost use Rattle.interpreter_state.specs.Views.{place_seen, records_in, reference_seen, seen_as, start_of, visible_in};
 
-use crate::{Operand, Place, copied};
+use crate::{Operand, Place, Placed};
 use std::alloc::{AllocError, Global};
 use typed_tree::{Access, Base, FunctionResult, Heading, Variable, VariableKind};
 
@@ -46,13 +46,12 @@ pub struct Activation {
 
 impl Reference {
     // The same once more.
-    fn again(&self, alloc: Global) -> Result<Reference, AllocError>
+    fn again(&self) -> Result<Reference, AllocError>
         ensures { IfOk result (λ r. reference_seen r ≡ reference_seen self.now) }
     {
-        let place = copied(alloc, &self.place)?;
         Ok(Reference {
             root: self.root,
-            place,
+            place: self.place.clone()?,
         })
     }
 }
@@ -71,16 +70,11 @@ impl Seen {
     }
 
     // Where a variable lies that its block declares.
-    fn home(
-        &self,
-        alloc: Global,
-        root: u32,
-        kind: VariableKind,
-    ) -> Result<Option<Place>, AllocError>
+    fn home(&self, alloc: Global, root: u32, kind: VariableKind) -> Placed
         ensures { IfOk result (λ place. option_map place_seen place ≡ home_in (seen_as self.now) root kind) }
     {
         match kind {
-            VariableKind::VariableParameter => passed_for(alloc, &self.references, root),
+            VariableKind::VariableParameter => passed_for(&self.references, root),
             _ => Ok(Some(Place {
                 activation: self.number,
                 variable: root,
@@ -106,13 +100,8 @@ impl Activation {
         }
     }
 
-    /// Where a variable lies, if it is visible. An error means that memory ran out, as it does below.
-    pub fn place(
-        &self,
-        alloc: Global,
-        variables: &[Variable],
-        root: u32,
-    ) -> Result<Option<Place>, AllocError>
+    /// Where a variable lies, if it is visible.
+    pub fn place(&self, alloc: Global, variables: &[Variable], root: u32) -> Placed
         ensures { IfOk result (λ place. option_map place_seen place
             ≡ place_of (visible_in self.now) root (slice_get variables.now root)) }
     {
@@ -159,28 +148,23 @@ impl Activation {
     }
 
     /// The place at which an access begins, if there is one.
-    pub fn start(
-        &self,
-        alloc: Global,
-        variables: &[Variable],
-        access: &Access,
-    ) -> Result<Option<Place>, AllocError>
+    pub fn start(&self, alloc: Global, variables: &[Variable], access: &Access) -> Placed
         ensures { IfOk result (λ place. option_map place_seen place
             ≡ start_of self.now variables.now (origin_of access.now)) }
     {
         match &access.base {
             Base::Variable => self.place(alloc, variables, access.root),
-            Base::Record { slot, .. } => self.record(alloc, *slot),
+            Base::Record { slot, .. } => self.record(*slot),
         }
     }
 
     // Where the record of a slot lies, if there is one.
-    fn record(&self, alloc: Global, slot: u32) -> Result<Option<Place>, AllocError>
+    fn record(&self, slot: u32) -> Placed
         ensures { IfOk result (λ place. option_map place_seen place
             ≡ place_at (slice_get (records_in self.now) slot)) }
     {
         match self.records.get(slot as usize) {
-            Some(place) => copied(alloc, place),
+            Some(place) => place.clone(),
             None => Ok(None),
         }
     }
@@ -212,24 +196,20 @@ fn references_again(alloc: Global, references: &[Reference]) -> Result<Vec<Refer
     let mut again = Vec::new(alloc);
     let mut left = references;
     while let Some((first, rest)) = left.split_first() {
-        again.push(first.again(alloc)?)?;
+        again.push(first.again()?)?;
         left = rest;
     }
     Ok(again)
 }
 
 // The place that was passed for a formal parameter.
-fn passed_for(
-    alloc: Global,
-    references: &[Reference],
-    root: u32,
-) -> Result<Option<Place>, AllocError>
+fn passed_for(references: &[Reference], root: u32) -> Placed
     ensures { IfOk result (λ place. option_map place_seen place ≡ passed_at (map reference_seen references.now) root) }
 {
     let mut left = references;
     while let Some((first, rest)) = left.split_first() {
         if first.root == root {
-            return copied(alloc, &first.place);
+            return first.place.clone();
         }
         left = rest;
     }
@@ -237,12 +217,7 @@ fn passed_for(
 }
 
 // Where a variable lies that one of the blocks of visible activations declares.
-fn place_in(
-    alloc: Global,
-    visible: &[Seen],
-    root: u32,
-    variable: Variable,
-) -> Result<Option<Place>, AllocError>
+fn place_in(alloc: Global, visible: &[Seen], root: u32, variable: Variable) -> Placed
     ensures { IfOk result (λ place. option_map place_seen place ≡ declared_in (map seen_as visible.now) root variable) }
 {
     let mut left = visible;
@@ -271,7 +246,7 @@ fn references_of(
         let Some((argument, rest)) = left.split_first() else {
             break;
         };
-        let place = argument.place_again(alloc)?;
+        let place = argument.place_again()?;
         references.push(Reference { root: *root, place })?;
         roots = others;
         left = rest;

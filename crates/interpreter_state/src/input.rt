@@ -45,10 +45,8 @@ impl<'i> Input<'i> {
     pub fn is_at_line_end(self) -> Result<bool, InputFault>
         ensures { read_eoln (left_in self.entry) ≡ looked self.entry result }
     {
-        match self.next() {
-            Some((byte, _)) => Ok(byte == b'\n'),
-            None => Err(InputFault::EndOfInput),
-        }
+        let (byte, _) = self.next().ok_or(InputFault::EndOfInput)?;
+        Ok(byte == b'\n')
     }
 
     /// What is left behind the next line end (6.9.2).

@@ -15,5 +15,5 @@ pub mod text;
 pub mod work;
 
 pub use operand::Operand;
-pub use store::{Place, component, copied, part};
+pub use store::{Place, Placed, component, part};
 pub use work::{Caller, Rounds, Work, put};

@@ -2,9 +2,9 @@ ghost use Rattle.std.specs.Prelude.{◌≡◌, IfOk, option_map};
 ghost use Rattle.meaning.specs.Meaning.{place_passed};
 ghost use Rattle.interpreter_state.specs.Views.{operand_seen, place_seen, row_in, value_in};
 
-use crate::{Place, copied};
+use crate::{Place, Placed};
 use meaning::{Ordinal, Value};
-use std::alloc::{AllocError, Global};
+use std::alloc::Global;
 
 /// What a run has in hand, on a stack.
 #[derive(Drop)]
@@ -37,12 +37,12 @@ impl Operand {
         }
     }
 
-    /// The place that it is, once more. An error means that memory ran out.
-    pub fn place_again(&self, alloc: Global) -> Result<Option<Place>, AllocError>
+    /// The place that it is, once more.
+    pub fn place_again(&self) -> Placed
         ensures { IfOk result (λ place. option_map place_seen place ≡ place_passed (operand_seen self.now)) }
     {
         match self {
-            Operand::Place(place) => copied(alloc, place),
+            Operand::Place(place) => place.clone(),
             _ => Ok(None),
         }
     }

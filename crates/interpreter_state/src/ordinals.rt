@@ -69,8 +69,10 @@ pub fn combined_number(operation: Dyadic, left: Ordinal, right: Ordinal) -> Resu
         Dyadic::Plus { overflow } => left.plus(right).ok_or(overflow),
         Dyadic::Minus { overflow } => left.minus(right).ok_or(overflow),
         Dyadic::Times { overflow } => left.times(right).ok_or(overflow),
-        Dyadic::Div { by_zero } => quotient(left, right, by_zero),
-        Dyadic::Mod { by_zero_or_less } => modulus(left, right, by_zero_or_less),
+        Dyadic::Div { by_zero } if right.number() == 0 => Err(by_zero),
+        Dyadic::Div { .. } => Ok(left.quotient(right)),
+        Dyadic::Mod { by_zero_or_less } if right.number() < 1 => Err(by_zero_or_less),
+        Dyadic::Mod { .. } => Ok(left.modulus(right)),
         Dyadic::And => Ok(Ordinal::truth(left.is_true() && right.is_true())),
         Dyadic::Or => Ok(Ordinal::truth(left.is_true() || right.is_true())),
         Dyadic::Relation(relation) => Ok(Ordinal::truth(is_related(relation, left, right))),
@@ -79,26 +81,6 @@ pub fn combined_number(operation: Dyadic, left: Ordinal, right: Ordinal) -> Resu
         | Dyadic::Intersection
         | Dyadic::SetRelation(_)
         | Dyadic::In => Ok(Ordinal::new(0)),
-    }
-}
-
-fn quotient(left: Ordinal, right: Ordinal, by_zero: u32) -> Result<Ordinal, u32>
-    ensures { Answers (combined (Dyadic.Div by_zero) left right) result }
-{
-    if right.number() == 0 {
-        Err(by_zero)
-    } else {
-        Ok(left.quotient(right))
-    }
-}
-
-fn modulus(left: Ordinal, right: Ordinal, by_zero_or_less: u32) -> Result<Ordinal, u32>
-    ensures { Answers (combined (Dyadic.Mod by_zero_or_less) left right) result }
-{
-    if 1 <= right.number() {
-        Ok(left.modulus(right))
-    } else {
-        Err(by_zero_or_less)
     }
 }
 

@@ -58,10 +58,7 @@ fn of_sets(operator: Operator, left: Value, right: Value) -> Value
 fn of_numbers(operation: Dyadic, left: Value, right: Value) -> Result<Value, u32>
     ensures { Answers (numbers_both operation left right) result }
 {
-    match combined_number(operation, number_of(left), number_of(right)) {
-        Ok(number) => Ok(Value::Number(number)),
-        Err(site) => Err(site),
-    }
+    combined_number(operation, number_of(left), number_of(right)).map(Value::Number)
 }
 
 // How one set has to stand to another in a relation of sets.
@@ -90,20 +87,17 @@ fn is_member(set: u128, number: Ordinal) -> bool
 fn member_at(number: Ordinal) -> Option<i32>
     ensures { result ≡ member_at number }
 {
-    match i32::try_from(number.number()) {
-        Ok(place) if can_be_member(place) => Some(place),
-        _ => None,
-    }
+    i32::try_from(number.number())
+        .ok()
+        .filter(|place| can_be_member(*place))
 }
 
 /// A set with one member more, or the site of its test (6.7.1).
 pub fn with_one(site: u32, member: Ordinal, set: u128) -> Result<u128, u32>
     ensures { Answers (with_one site (Number member) set) result }
 {
-    match member_at(member) {
-        Some(place) => Ok(Operator::Union.of(set, of_one(place))),
-        None => Err(site),
-    }
+    let place = member_at(member).ok_or(site)?;
+    Ok(Operator::Union.of(set, of_one(place)))
 }
 
 /// A set with all members from a first to a last one, or the site of their test (6.7.1).

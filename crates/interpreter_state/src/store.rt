@@ -9,30 +9,18 @@ use types::{Step, TypeId, TypeTable};
 
 /// Where a scalar or a set lies: an activation, a variable of it by its root number, and the steps
 /// to a component.
-#[derive(PartialEq, Eq, PartialOrd, Ord, Drop)]
+#[derive(Clone, PartialEq, Eq, PartialOrd, Ord, Drop)]
 pub struct Place {
     pub activation: u64,
     pub variable: u32,
     pub steps: Vec<Step>,
 }
 
-/// The same place once more, if there is one. An error means that memory ran out, as it does below.
-pub fn copied(alloc: Global, place: &Option<Place>) -> Result<Option<Place>, AllocError>
-    ensures { IfOk result (λ p. option_map place_seen p ≡ option_map place_seen place.now) }
-{
-    let Some(place) = place else {
-        return Ok(None);
-    };
-    let steps = Vec::from_slice(alloc, &place.steps)?;
-    Ok(Some(Place {
-        activation: place.activation,
-        variable: place.variable,
-        steps,
-    }))
-}
+/// A place, if there is one. An error means that memory ran out.
+pub type Placed = Result<Option<Place>, AllocError>;
 
 /// The place of a part of a place, if there is one.
-pub fn part(place: Option<Place>, step: Step) -> Result<Option<Place>, AllocError>
+pub fn part(place: Option<Place>, step: Step) -> Placed
     ensures { IfOk result (λ found. option_map place_seen found ≡ part (option_map place_seen place) (step ∷ [])) }
 {
     match place {
@@ -51,7 +39,7 @@ pub fn component(
     place: &Option<Place>,
     type_id: TypeId,
     component: u32,
-) -> Result<Option<Place>, AllocError>
+) -> Placed
     requires inside { component < cells_of types.now type_id }
     ensures { IfOk result (λ found. option_map place_seen found ≡ part (option_map place_seen place.now)
         (slice_index_or (components_of types.now type_id) component [])) }

@@ -1,9 +1,10 @@
 ghost use Rattle.std.specs.Prelude.{◌≡◌, ◌++◌, OnOk, map, pos, replicate};
 ghost use Rattle.meaning.specs.Effect.{boolean_text, char_text, integer_text, number_of, places, row_text};
-ghost use Rattle.meaning.specs.Effect.{string_text, text_of};
+ghost use Rattle.meaning.specs.Effect.{text_of};
 ghost use Rattle.meaning.specs.Integers.{byte_of};
 
 use crate::ordinals::number_of;
+use crate::rows::row_of;
 use meaning::{Ordinal, Value};
 use std::alloc::{AllocError, Global};
 use typed_tree::Representation;
@@ -21,7 +22,7 @@ pub fn write_ordinal(
     match representation {
         Representation::Char => write_char(output, number, width),
         Representation::Integer => write_integer(alloc, output, number, width),
-        Representation::Boolean => write_boolean(output, number, width),
+        Representation::Boolean => write_boolean(alloc, output, number, width),
     }
 }
 
@@ -78,27 +79,17 @@ fn write_integer(
 }
 
 // A Boolean is written as a string.
-fn write_boolean(output: &mut Vec<u8>, number: Ordinal, width: Ordinal) -> Result<(), AllocError>
+fn write_boolean(
+    alloc: Global,
+    output: &mut Vec<u8>,
+    number: Ordinal,
+    width: Ordinal,
+) -> Result<(), AllocError>
     ensures { OnOk result (output.new.items ≡ output.old.items ++ boolean_text number width) }
 {
-    if number.is_true() {
-        write_string(output, b"true", width)
-    } else {
-        write_string(output, b"false", width)
-    }
-}
-
-// A string is set right in its width, or cut to its first characters.
-fn write_string(output: &mut Vec<u8>, text: &[u8], width: Ordinal) -> Result<(), AllocError>
-    ensures { OnOk result (output.new.items ≡ output.old.items ++ string_text text.now width) }
-{
-    let places = places_in(width);
-    if places < text.len() {
-        output.extend_from_slice(&text[..places])
-    } else {
-        indent(output, places - text.len())?;
-        output.extend_from_slice(text)
-    }
+    let text = if number.is_true() { "true" } else { "false" };
+    let row = row_of(alloc, text.as_bytes())?;
+    write_row(output, &row, width)
 }
 
 // How many places a width gives.

@@ -4,7 +4,7 @@ ghost use Rattle.lexer.specs.declared.fault.LexFault.TheVariants.{Memory};
 
 use memory::Refused;
 use place::Place;
-use std::alloc::{AllocError, AllocFailed};
+use std::alloc::AllocFailed;
 use thiserror::Error;
 
 /// Why a text has no list of tokens.
@@ -73,14 +73,6 @@ impl LexFault {
             | LexFault::LongText(place)
             | LexFault::StringByte(place) => Some(*place),
         }
-    }
-}
-
-impl From<AllocError> for LexFault {
-    ghost from_gives = { λ _ e. e ≡ Memory the_refusal };
-
-    fn from(error: AllocError) -> LexFault {
-        LexFault::Memory(error.into())
     }
 }
 

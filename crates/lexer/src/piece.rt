@@ -187,10 +187,7 @@ fn name(text: &[u8]) -> (Piece, usize)
 fn kind_of(letters: &[u8]) -> Kind
     ensures { result ≡ spec.kind_of letters.now }
 {
-    match word_of(letters) {
-        Some(word) => Kind::Word(word),
-        None => Kind::Identifier,
-    }
+    word_of(letters).map_or(Kind::Identifier, Kind::Word)
 }
 
 /// How many letters and digits a text begins with.

@@ -90,8 +90,8 @@ impl<'a> Seer<'a> {
     // Goes on where a condition has a truth value. Where the walk was before.
     fn go_where(&mut self, condition: &Expr, truth: bool) -> Mark {
         let mark = self.state().mark();
-        let known = self.walk.expression(condition, &mut Uncounted);
-        self.walk.go_where(condition, &known, truth);
+        let valued = self.walk.condition(condition, &mut Uncounted);
+        self.walk.go_where(condition, &valued, truth);
         mark
     }
 

@@ -1,6 +1,6 @@
 ghost use Rattle.std.specs.Prelude.{◌≡◌, if◌then◌else◌, Some, None};
 ghost use Rattle.std.specs.Option.{option_map};
-ghost use Rattle.reading.specs.Lexemes.{character_string, identifier};
+ghost use Rattle.reading.specs.Lexemes.{character_string, identifier, of_text};
 ghost use Rattle.reading.specs.Reading as spec;
 ghost use Rattle.reading.specs.Reading.{direction_in, is_forward, next_kind, next_place, same_kind, sign_in};
 ghost use Rattle.token_cursor.specs.Level.{level_number};
@@ -47,7 +47,7 @@ impl<'t, 'a> Cursor<'t, 'a> {
         Some(self.rest.first()?.place)
     }
 
-    /// CursorTakes the next token if it is of this kind, and answers its place.
+    /// Takes the next token if it is of this kind, and answers its place.
     #[tactic(auto, unfolding(reading::specs::Reading::taken))]
     pub fn take(&mut self, kind: Kind) -> Option<Place>
         ensures { CursorTakes (spec.taken kind) self.old result self.new }
@@ -95,28 +95,28 @@ impl<'t, 'a> Cursor<'t, 'a> {
         Ok(made)
     }
 
-    /// CursorTakes an identifier, if one is next.
+    /// Takes the next token if it is of this kind, and answers its text and its place.
     #[tactic(auto, unfolding(reading::specs::Reading::text_taken))]
-    pub fn take_name(&mut self) -> Option<Name<'a>>
-        ensures { CursorTakes (spec.text_taken Kind.Identifier) self.old (option_map identifier result) self.new }
+    fn take_text(&mut self, kind: Kind) -> Option<(&'a [u8], Place)>
+        ensures { CursorTakes (spec.text_taken kind) self.old
+            (option_map (λ taken. of_text kind taken.0.now taken.1) result) self.new }
     {
         match self.rest {
-            [
-                Token {
-                    kind: Kind::Identifier,
-                    text,
-                    place,
-                },
-                rest @ ..,
-            ] => {
+            [token, rest @ ..] if is_of_kind(token, kind) => {
+                let taken = (token.text, token.place);
                 self.rest = rest;
-                Some(Name {
-                    text,
-                    place: *place,
-                })
+                Some(taken)
             }
             _ => None,
         }
+    }
+
+    /// Takes an identifier, if one is next.
+    pub fn take_name(&mut self) -> Option<Name<'a>>
+        ensures { CursorTakes (spec.text_taken Kind.Identifier) self.old (option_map identifier result) self.new }
+    {
+        let (text, place) = self.take_text(Kind::Identifier)?;
+        Some(Name { text, place })
     }
 
     pub fn expect_name(&mut self) -> Read<Name<'a>>
@@ -139,7 +139,7 @@ impl<'t, 'a> Cursor<'t, 'a> {
         }
     }
 
-    /// CursorTakes a number, if one is next.
+    /// Takes a number, if one is next.
     #[tactic(auto, unfolding(reading::specs::Reading::number_taken))]
     pub fn take_number(&mut self) -> Option<(u32, Place)>
         ensures { CursorTakes spec.number_taken self.old result self.new }
@@ -154,29 +154,15 @@ impl<'t, 'a> Cursor<'t, 'a> {
         Some((value, token.place))
     }
 
-    /// CursorTakes a string, if one is next: its text with the apostrophes, and its place.
-    #[tactic(auto, unfolding(reading::specs::Reading::text_taken))]
+    /// Takes a string, if one is next: its text with the apostrophes, and its place.
     pub fn take_string(&mut self) -> Option<(&'a [u8], Place)>
         ensures { CursorTakes (spec.text_taken Kind.Text) self.old
             (option_map (λ string. character_string string.0.now string.1) result) self.new }
     {
-        match self.rest {
-            [
-                Token {
-                    kind: Kind::Text,
-                    text,
-                    place,
-                },
-                rest @ ..,
-            ] => {
-                self.rest = rest;
-                Some((text, *place))
-            }
-            _ => None,
-        }
+        self.take_text(Kind::Text)
     }
 
-    /// CursorTakes a sign, if one is next.
+    /// Takes a sign, if one is next.
     #[tactic(auto, unfolding(reading::specs::Reading::sign_taken))]
     pub fn take_sign(&mut self) -> Option<(Sign, Place)>
         ensures { CursorTakes spec.sign_taken self.old result self.new }
@@ -189,7 +175,7 @@ impl<'t, 'a> Cursor<'t, 'a> {
         Some(sign)
     }
 
-    /// CursorTakes the word symbol of a direction, if one is next.
+    /// Takes the word symbol of a direction, if one is next.
     #[tactic(auto, unfolding(reading::specs::Reading::direction_taken))]
     pub fn take_direction(&mut self) -> Option<Direction>
         ensures { CursorTakes spec.direction_taken self.old result self.new }
@@ -208,7 +194,7 @@ impl<'t, 'a> Cursor<'t, 'a> {
         self.take_direction().ok_or(Refusal::NoProgram)
     }
 
-    /// CursorTakes a relational operator, if one is next.
+    /// Takes a relational operator, if one is next.
     #[tactic(auto, unfolding(reading::specs::Reading::relational_taken))]
     pub fn take_relational(&mut self) -> Option<(RelationalOperator, Place)>
         ensures { CursorTakes spec.relational_taken self.old result self.new }
@@ -221,7 +207,7 @@ impl<'t, 'a> Cursor<'t, 'a> {
         Some(operator)
     }
 
-    /// CursorTakes an operator of this level, if one is next.
+    /// Takes an operator of this level, if one is next.
     #[tactic(auto, unfolding(reading::specs::Reading::operator_taken))]
     pub fn take_operator(&mut self, level: Level) -> Option<(Operator, Place)>
         ensures { CursorTakes (spec.operator_taken (level_number level)) self.old result self.new }
@@ -237,7 +223,7 @@ impl<'t, 'a> Cursor<'t, 'a> {
         Some((operator, token.place))
     }
 
-    /// CursorTakes the period of a program, behind which nothing may stand.
+    /// Takes the period of a program, behind which nothing may stand.
     pub fn expect_period_at_end(&mut self) -> Read<()>
         ensures { Makes (λ end. end) (period_at_end self.old.rest.now) result self.new }
     {

@@ -3,7 +3,7 @@ ghost use Rattle.memory.specs.Refused.{the_refusal};
 ghost use Rattle.types.specs.declared.refusal.TypeRefusal.TheVariants.{Memory};
 
 use memory::Refused;
-use std::alloc::{AllocError, AllocFailed};
+use std::alloc::AllocFailed;
 
 /// Why a form can't be a type of a table.
 #[derive(Clone, Copy)]
@@ -15,14 +15,6 @@ pub enum TypeRefusal {
     TooManyCells,
     /// Y3: a member of a set may lie outside 0 to 127 (6.4.3.4).
     MembersOutOfRange,
-}
-
-impl From<AllocError> for TypeRefusal {
-    ghost from_gives = { λ _ e. e ≡ Memory the_refusal };
-
-    fn from(error: AllocError) -> TypeRefusal {
-        TypeRefusal::Memory(error.into())
-    }
 }
 
 impl<T: Drop> From<AllocFailed<T>> for TypeRefusal {

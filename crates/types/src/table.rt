@@ -79,10 +79,7 @@ impl TypeTable {
     pub fn form(&self, id: TypeId) -> Option<&TypeForm>
         ensures { option_map (λ form. form_of form.now) result ≡ form_at self.now id }
     {
-        match self.entries.get(id.index) {
-            None => None,
-            Some(entry) => Some(&entry.form),
-        }
+        Some(&self.entries.get(id.index)?.form)
     }
 
     /// The host type of a subrange; another type itself (6.4.2.4).
@@ -192,10 +189,7 @@ impl TypeTable {
     pub fn cells(&self, id: TypeId) -> u32
         ensures { result ≡ cells_of self.now id }
     {
-        match self.entries.get(id.index) {
-            None => 1,
-            Some(entry) => entry.cells,
-        }
+        self.entries.get(id.index).map_or(1, |entry| entry.cells)
     }
 
     /// The field of a record that has this name in small letters (6.5.3.3); none, where the type has no such field, or
@@ -307,10 +301,7 @@ impl TypeTable {
     fn values(&self, id: TypeId) -> u64
         ensures { result ≡ values_at (counted self.now) id }
     {
-        match self.range(id) {
-            None => 0,
-            Some(range) => range.count(),
-        }
+        self.range(id).map_or(0, |range| range.count())
     }
 
     // The cells of a part of a type, if it stands before it.

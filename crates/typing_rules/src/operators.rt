@@ -144,10 +144,7 @@ fn may_contain(left: TypedValue, right: TypedValue) -> bool
 fn agrees(host: Option<TypeId>, type_id: TypeId) -> bool
     ensures { result ≡ agree is_same host (Some type_id) }
 {
-    match host {
-        None => true,
-        Some(host) => host.same(type_id),
-    }
+    host.is_none_or(|host| host.same(type_id))
 }
 
 // Whether two ordinals, two sets or two strings may be compared.
@@ -177,10 +174,10 @@ fn are_alike(types: &TypeTable, left: TypedValue, right: TypedValue) -> bool
 pub fn may_index(types: &TypeTable, element: ArrayElement, value: Typed) -> bool
     ensures { result ≡ is_ordinal_of (is_compatible types.now element.index) value }
 {
-    match value.value.ordinal_type() {
-        None => false,
-        Some(type_id) => types.compatible(element.index, type_id),
-    }
+    value
+        .value
+        .ordinal_type()
+        .is_some_and(|type_id| types.compatible(element.index, type_id))
 }
 
 /// A member of a set, by the host type of those before it (6.7.1): K1 at the place where it is no ordinal of that type.
@@ -202,8 +199,6 @@ pub fn member_with_site(
     ensures { result ≡ member_with_site host place member }
 {
     let type_id = member_of(host, place, member)?;
-    match member.site {
-        Some(site) => Ok((site, type_id)),
-        None => Err(TypeFault::Mismatch(place)),
-    }
+    let site = member.site.ok_or(TypeFault::Mismatch(place))?;
+    Ok((site, type_id))
 }

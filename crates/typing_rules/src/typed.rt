@@ -60,19 +60,17 @@ impl Typed {
     pub fn is_of(self, type_id: TypeId) -> bool
         ensures { result ≡ is_of type_id self }
     {
-        match self.value.ordinal_type() {
-            None => false,
-            Some(own) => own.same(type_id),
-        }
+        self.value
+            .ordinal_type()
+            .is_some_and(|own| own.same(type_id))
     }
 
     /// Whether it is an ordinal, of an ordinal type (6.4.2).
     pub fn is_ordinal(self, types: &TypeTable) -> bool
         ensures { result ≡ is_ordinal_of (is_ordinal types.now) self }
     {
-        match self.value.ordinal_type() {
-            None => false,
-            Some(own) => types.is_ordinal(own),
-        }
+        self.value
+            .ordinal_type()
+            .is_some_and(|own| types.is_ordinal(own))
     }
 }

@@ -10,8 +10,8 @@ returns-in-Some c =
     let sections = c.args.sections.now in
     let content = said_content c.args.content.now in
     let some : 0 < vec_len sections = c.last_mut.ensures.variant.0 (search rules) in
-    on_ok_weaker c.add_to_section.result
+    on_ok_weaker c.add.result
     (λ told. in_last_section c.args.content.now _ _ c.in_default.not-Block
-    (last_changed section_of (in_section content) sections.items (vec_len sections) c.in-Some.section.now c.add_to_section.new.section
+    (last_changed section_of (in_section content) sections.items (vec_len sections) c.in-Some.section.now c.add.new.self
     sections.ok.0 some c.in-Some.ensures.value told))
-    c.add_to_section.ensures
+    c.add.ensures

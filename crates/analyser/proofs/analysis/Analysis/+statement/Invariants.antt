@@ -21,10 +21,16 @@ abbrev pub decreases-simple : goal.decreases-simple
 decreases-simple l = 16 * l.left + 5
 
 abbrev pub decreases-value : goal.decreases-value
-decreases-value l = 16 * l.left + 5
+decreases-value l = 16 * l.left + 6
+
+abbrev pub decreases-condition : goal.decreases-condition
+decreases-condition l = 16 * l.left + 6
+
+abbrev pub decreases-comes_back : goal.decreases-comes_back
+decreases-comes_back l = 16 * l.left + 5
 
 abbrev pub decreases-records : goal.decreases-records
-decreases-records l = 16 * l.left + 6
+decreases-records l = 16 * l.left + 7
 
 abbrev pub decreases-statements : goal.decreases-statements
 decreases-statements l = 16 * l.left + 6

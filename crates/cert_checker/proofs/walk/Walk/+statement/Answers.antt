@@ -13,8 +13,10 @@ use Rattle.checker_loops.specs.View.{claims_of_round, said_turns}
 use Rattle.checker_loops.specs.Ways.{Way, way_of, way_out, where_counts}
 use Rattle.checker_state.specs.Loops.{with_undefined}
 use Rattle.checker_expressions.specs.Visits.{all_counted}
-use Rattle.checker_expressions.specs.Walk.{Context, Walking, ◌>>=◌, changed_by, give, value_walk, with_state}
-use Rattle.cert_checker.specs.Walk.{all_of, begin_way, bounds_walk, branches, case_walk, choice_walk, either_of, for_turns, for_walk, from_entry}
+use Rattle.cert_checker.specs.StepsView.{said_valued}
+use Rattle.checker_expressions.specs.Walk.{Context, Valued, Walking, ◌>>=◌, changed_by, give, value_walk, with_state}
+use Rattle.cert_checker.specs.Walk.{all_of, begin_way, bounds_walk, branches, case_walk, choice_walk, condition_walk, either_of, for_turns, for_walk}
+use Rattle.cert_checker.specs.Walk.{from_entry}
 use Rattle.cert_checker.specs.Walk.{index_walk, parted}
 use Rattle.cert_checker.specs.Walk.{record_walk, repeat_round, with_walk}
 use Rattle.cert_checker.specs.Walk.{for_round, growths_entered, turn_from, turn_to}
@@ -64,14 +66,14 @@ statement-returns-in-If-clause-goes g t c =
     let condition = it.condition in
     let one = statement_walk c.deref-in-If.result.now in
     let other = else_walk it.alternative in
-    let known = c.expression-known.result in
+    let known = said_valued c.condition-valued.result in
     let where_known : Bool → Walking (Unit {0}) = λ truth context. changed_by (where_so context.tree truth condition known) context in
     let form = λ (first : Walking (Unit {0})). from_entry it.number (choice_walk condition first other) in
     goes-as (statement_walk c.args.statement.now) (form one)
     (ap statement_walk it.is ∙ statement-If it.number condition it.consequence it.alternative
     ∙ ap (λ (s : Stmt). form (statement_walk s)) (sym c.deref-in-If.ensures))
     (goes-from_entry it.number (choice_walk condition one other)
-    (goes-then (value_walk condition) (λ known context. branches context.tree condition one other known context) c.expression-known.ensures.goes
+    (goes-then (condition_walk condition) (λ known context. branches context.tree condition one other known context) c.condition-valued.ensures.goes
     (goes-here
     (λ context state. either_of context ((where_known true >>= λ _. one) context state) ((where_known false >>= λ _. other) context state))
     (λ context. branches context.tree condition one other known context) refl
@@ -88,7 +90,7 @@ statement-returns-in-If-clause-counts g t c =
     let other = else_entries it.alternative in
     let form = λ (s : Stmt). it.number ∷ (first ++ (entries_of_statement s ++ other)) in
     counted-then g.C.Count.counted (it.number ∷ []) (first ++ (one ++ other)) _ c.tick-in-If.ensures
-    (counted-then g.C.Count.counted first (one ++ other) _ c.expression-known.ensures.counts
+    (counted-then g.C.Count.counted first (one ++ other) _ c.condition-valued.ensures.counts
     (counted-then g.C.Count.counted one other _ c.statement.ensures.counts c.alternative.ensures.counts))
     ∙ ap (λ numbers. all_counted g.C.Count.counted numbers c.args.visits.now)
     (sym (ap entries_of_statement it.is ∙ entries-If it.number it.condition it.consequence it.alternative ∙ ap form (sym c.deref-in-If.ensures)))
@@ -135,14 +137,15 @@ while_loop-returns-clause-goes g t c =
     let head = c.args.head.now in
     let condition = head.condition in
     let body = statement_walk c.args.body.now in
-    let again : Known → State → Walking (Unit {0}) = λ known tested context. with_state (where_so context.tree true condition known tested) context in
-    let out : Tree → Known → State → State = λ tree known tested. where_so tree false condition known tested in
-    let whole = λ (known : Known) (tested : State). again known tested >>= λ _. body in
+    let again : Valued → State → Walking (Unit {0}) = λ known tested context. with_state (where_so context.tree true condition known tested) context in
+    let out : Tree → Valued → State → State = λ tree known tested. where_so tree false condition known tested in
+    let whole = λ (known : Valued) (tested : State). again known tested >>= λ _. body in
     goes-from_entry head.number (while_walk head body)
-    (goes-here (loop_walk head.loop_number head.place None (round_of_parts (value_walk condition) whole out)) (while_walk head body) refl
-    (loop-done head.loop_number head.place None (value_walk condition) whole out c.mark-mark.result.length c.enter_loop.ensures
-    c.expression-known.ensures.goes c.mark-mark.ensures
-    (goes-then (again c.expression-known.result (state_of c.expression-known.new.self.flow)) (λ _. body) c.go_where.ensures c.statement.ensures.goes)
+    (goes-here (loop_walk head.loop_number head.place None (round_of_parts (condition_walk condition) whole out)) (while_walk head body) refl
+    (loop-done head.loop_number head.place None (condition_walk condition) whole out c.mark-mark.result.length c.enter_loop.ensures
+    c.condition-valued.ensures.goes c.mark-mark.ensures
+    (goes-then (again (said_valued c.condition-valued.result) (state_of c.condition-valued.new.self.flow)) (λ _. body) c.go_where.ensures
+    c.statement.ensures.goes)
     c.leave_loop.ensures c.leave-turn.ensures.long c.leave-turn.ensures.back c.go_where-2.ensures))
 
 pub while_loop-returns-clause-counts : goal.while_loop-returns-clause-counts
@@ -150,25 +153,25 @@ while_loop-returns-clause-counts g t c =
     let first = entries_of_expression c.args.head.now.condition in
     let rest = entries_of_statement c.args.body.now in
     counted-then g.C.Count.counted (c.args.head.now.number ∷ []) (first ++ rest) _ c.tick.ensures
-    (counted-then g.C.Count.counted first rest _ c.expression-known.ensures.counts c.statement.ensures.counts)
+    (counted-then g.C.Count.counted first rest _ c.condition-valued.ensures.counts c.statement.ensures.counts)
 
 pub repeat_loop-returns-clause-goes : goal.repeat_loop-returns-clause-goes
 repeat_loop-returns-clause-goes g t c =
     let head = c.args.head.now in
     let condition = head.condition in
     let body = all_of (map statement_walk c.args.statements.now) in
-    let again : Known → State → Walking (Unit {0}) = λ known tested context. with_state (where_so context.tree false condition known tested) context in
-    let out : Tree → Known → State → State = λ tree known tested. where_so tree true condition known tested in
-    let parts = round_of_parts (body >>= λ _. value_walk condition) again out in
+    let again : Valued → State → Walking (Unit {0}) = λ known tested context. with_state (where_so context.tree false condition known tested) context in
+    let out : Tree → Valued → State → State = λ tree known tested. where_so tree true condition known tested in
+    let parts = round_of_parts (body >>= λ _. condition_walk condition) again out in
     let context = context_of c.args.self.now in
     goes-from_entry head.number (repeat_walk head body)
     (goes-here (loop_walk head.loop_number head.place None parts) (repeat_walk head body)
     (loop-alike head.loop_number head.place None parts (repeat_round context.tree body condition) context
-    (λ rounds state. then-assoc body (λ _. value_walk condition)
+    (λ rounds state. then-assoc body (λ _. condition_walk condition)
     (λ known. here >>= λ tested. (again known tested >>= λ _ inner. give (out inner.tree known tested) inner)) (record context { rounds = rounds }) state)
     (state_of c.args.self.now.flow))
-    (loop-done head.loop_number head.place None (body >>= λ _. value_walk condition) again out c.mark-mark.result.length c.enter_loop.ensures
-    (goes-then body (λ _. value_walk condition) c.statements.ensures.goes c.expression-known.ensures.goes) c.mark-mark.ensures c.go_where.ensures
+    (loop-done head.loop_number head.place None (body >>= λ _. condition_walk condition) again out c.mark-mark.result.length c.enter_loop.ensures
+    (goes-then body (λ _. condition_walk condition) c.statements.ensures.goes c.condition-valued.ensures.goes) c.mark-mark.ensures c.go_where.ensures
     c.leave_loop.ensures c.leave-turn.ensures.long c.leave-turn.ensures.back c.go_where-2.ensures))
 
 pub repeat_loop-returns-clause-counts : goal.repeat_loop-returns-clause-counts
@@ -176,7 +179,7 @@ repeat_loop-returns-clause-counts g t c =
     let first = statements_entries c.args.statements.now in
     let rest = entries_of_expression c.args.head.now.condition in
     counted-then g.C.Count.counted (c.args.head.now.number ∷ []) (first ++ rest) _ c.tick.ensures
-    (counted-then g.C.Count.counted first rest _ c.statements.ensures.counts c.expression-known.ensures.counts)
+    (counted-then g.C.Count.counted first rest _ c.statements.ensures.counts c.condition-valued.ensures.counts)
 
 -- ---- a for
 

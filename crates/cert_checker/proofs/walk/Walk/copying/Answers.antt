@@ -1,8 +1,7 @@
-use Rattle.std.proofs.Common.{ap, ap₂, ◌∙◌, ℕ, List, ◌∷◌, ◌++◌, subst}
+use Rattle.std.proofs.Common.{ap₂, ◌∙◌, ℕ, List, ◌∷◌, ◌++◌, subst}
 use Rattle.typed_tree.specs.Accesses.{origin_of}
 use Rattle.typed_tree.specs.Entries.{access_entries, index_entries, whole_entries}
 use Rattle.typed_tree.specs.declared.tree.Expr.{Expr}
-use Rattle.typed_tree.specs.Calls.{whole_holds_call}
 use Rattle.domain.specs.Interval.{Interval}
 use Rattle.checker_state.specs.View.{said_reach}
 use Rattle.cert_checker.specs.View.{WalkGoes}
@@ -16,13 +15,13 @@ returns-clause-goes g c =
     let copying = c.args.copying.now in
     let target = copying.target in
     let held = said_reach c.reach_stored-reach.result in
-    copying-goes copying c.deref.result.now c.deref-2.result.now c.deref-4.result.now c.whole_holds_call-holds_call.result (said_reach c.access-reach.result)
+    copying-goes copying c.deref.result.now c.deref-2.result.now c.as_slice-later.result.now c.deref-3.result.now (said_reach c.access-reach.result)
     held c.whole_value-ranges.result.items c.deref.ensures.value c.access-reach.ensures.goes c.deref-2.ensures.value c.whole_value-ranges.ensures.goes
-    c.deref-4.ensures.value
-    (c.whole_holds_call-holds_call.ensures ∙ ap (λ (some : List Expr). whole_holds_call copying.value some) c.deref-3.ensures.value)
+    c.deref-3.ensures.value
+    c.as_slice-later.ensures.value
     c.reach_stored-reach.ensures
     (subst (λ (ranges : List Interval). WalkGoes (copy_to copying.becomes (origin_of target) target.selectors.items held ranges) c.whole_value-ranges.new.self
-    c.copy_to.new.self tt) c.deref-5.ensures.value c.copy_to.ensures)
+    c.copy_to.new.self tt) c.deref-4.ensures.value c.copy_to.ensures)
 
 pub returns-clause-counts : goal.returns-clause-counts
 returns-clause-counts g c =

@@ -1,50 +1,51 @@
-use Rattle.std.proofs.Common.{Bool, map, ◌∙◌, sym}
+use Rattle.std.proofs.Common.{Bool, ◌∙◌, sym}
 use Rattle.checker_rows.specs.Rows.{indexes_at, rows_of}
-use Rattle.checker_state.specs.State.{Held, covers, wanted_of}
-use Rattle.checker_state.specs.View.{said_spans}
+use Rattle.checker_state.specs.State.{Held, covers}
+use Rattle.checker_state.specs.View.{said_held}
 use Rattle.checker_state.specs.declared.held.Group.TheVariants as group
 use Rattle.checker_known.specs.Knowledge.{core, viewed}
+use Rattle.checker_known.specs.View.{asked}
 use Rattle.checker_known.proofs.InOrder.{any-here, inside-between, none-begin, none-more, none-there}
 use Rattle.checker_state.proofs.HeldOrders.{covers-outside}
 use Rattle.checker_known.proofs.knowledge.Knowledge.is_covered.Goals as goal
 
 pub loop-place-init : goal.loop-place-init
-loop-place-init c =
+loop-place-init g c =
     let known = viewed (core c.args.self.now) in
     let indexes = indexes_at (rows_of c.args.table.now) c.args.wanted.row in
-    let wanted = map (wanted_of known) (said_spans c.args.wanted) in
+    let wanted = asked g.A.Ask.asks g.B.Ask.asks c.args.wanted in
     let held = c.args.self.now.held.items in
     let test : Held → Bool = covers known indexes c.args.wanted.row wanted in
     none-begin test (group.Row c.args.wanted.row) (covers-outside known indexes c.args.wanted.row wanted) held c.places-first.result.0 c.places-first.result.1
     c.places-first.ensures.between
 
 pub returns-then-covers : goal.returns-then-covers
-returns-then-covers c =
+returns-then-covers g c =
     let known = viewed (core c.args.self.now) in
     let indexes = indexes_at (rows_of c.args.table.now) c.args.wanted.row in
-    let wanted = map (wanted_of known) (said_spans c.args.wanted) in
+    let wanted = asked g.A.Ask.asks g.B.Ask.asks c.args.wanted in
     let held = c.args.self.now.held.items in
     let test : Held → Bool = covers known indexes c.args.wanted.row wanted in
     any-here test held c.loop-place.place c.index.result.now
     (inside-between held c.loop-place.place c.places-first.ensures.between c.loop-place-test.true) c.index.ensures
-    (sym c.covers.ensures ∙ c.if-covers.true)
+    (◌∙◌ {a = test (said_held c.index.result.now)} (sym {b = test (said_held c.index.result.now)} c.covers.ensures) c.if-covers.true)
 
 pub loop-place-preserved : goal.loop-place-preserved
-loop-place-preserved c =
+loop-place-preserved g c =
     let known = viewed (core c.args.self.now) in
     let indexes = indexes_at (rows_of c.args.table.now) c.args.wanted.row in
-    let wanted = map (wanted_of known) (said_spans c.args.wanted) in
+    let wanted = asked g.A.Ask.asks g.B.Ask.asks c.args.wanted in
     let held = c.args.self.now.held.items in
     let test : Held → Bool = covers known indexes c.args.wanted.row wanted in
     none-more test held c.loop-place.place c.index.result.now c.loop-place.invariant
     (inside-between held c.loop-place.place c.places-first.ensures.between c.loop-place-test.true) c.index.ensures
-    (sym c.covers.ensures ∙ c.if-covers.false)
+    (◌∙◌ {a = test (said_held c.index.result.now)} (sym {b = test (said_held c.index.result.now)} c.covers.ensures) c.if-covers.false)
 
 pub returns : goal.returns
-returns c =
+returns g c =
     let known = viewed (core c.args.self.now) in
     let indexes = indexes_at (rows_of c.args.table.now) c.args.wanted.row in
-    let wanted = map (wanted_of known) (said_spans c.args.wanted) in
+    let wanted = asked g.A.Ask.asks g.B.Ask.asks c.args.wanted in
     let held = c.args.self.now.held.items in
     let test : Held → Bool = covers known indexes c.args.wanted.row wanted in
     none-there test (group.Row c.args.wanted.row) (covers-outside known indexes c.args.wanted.row wanted) held c.places-first.result.0 c.places-first.result.1

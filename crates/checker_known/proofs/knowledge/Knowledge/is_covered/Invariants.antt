@@ -1,14 +1,13 @@
-use Rattle.std.proofs.Common.{map}
 use Rattle.checker_rows.specs.Rows.{indexes_at, rows_of}
-use Rattle.checker_state.specs.State.{covers, wanted_of}
-use Rattle.checker_state.specs.View.{said_spans}
+use Rattle.checker_state.specs.State.{covers}
 use Rattle.checker_known.specs.Knowledge.{core, viewed}
+use Rattle.checker_known.specs.View.{asked}
 use Rattle.checker_known.proofs.InOrder.{NoneSoFar}
 use Rattle.checker_known.proofs.knowledge.Knowledge.is_covered.Given as goal
 
 abbrev pub invariant-loop-place : goal.invariant-loop-place
-invariant-loop-place l =
+invariant-loop-place g l =
     let known = viewed (core l.self) in
     let indexes = indexes_at (rows_of l.table) l.wanted.row in
-    let wanted = map (wanted_of known) (said_spans l.wanted) in
+    let wanted = asked g.A.Ask.asks g.B.Ask.asks l.wanted in
     NoneSoFar (covers known indexes l.wanted.row wanted) l.self.held.items l.place

@@ -1,0 +1,3 @@
+pub mod Sided
+pub mod SidesMet
+pub mod SoundSides
